@@ -1,0 +1,6 @@
+pub mod BoolLaws
+pub mod EveryLaws
+pub mod LeastLaws
+pub mod PartLaws
+pub mod StoreLaws
+pub mod Isolation
