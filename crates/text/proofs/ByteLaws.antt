@@ -1,0 +1,137 @@
+-- Laws of the tests and searches over a list of bytes: what a loop over the list uses, and what callers use.
+-- Assumes nothing.
+use Prim.Native.Nat.{ℕ, zero, suc, _+_, _-_, _<_, _≤_, zero-le, suc-le-suc}
+use Prim.Native.Char.{code}
+use mathlib.Core.Bool.{Bool, true, false, _&&_, cond, false≢true}
+use mathlib.Core.List.{List, [], _∷_, _++_}
+use mathlib.Core.Path.{_≡_, refl, ap, sym, _∙_, subst}
+use native.Mathlib.Nat.{not-suc-le-zero, le-of-suc-le-suc, le-of-eq}
+use native.Mathlib.Numerals.{add-one}
+use native.Mathlib.Omega.{arith}
+use borrow.Author.Tests.{eq-eqb, ne-eqb, eqb-true, leb-true}
+use lib.Dec.{eqb, leb}
+use lib.ListN.{length, getD, take, drop, length-drop, drop-of-length-le}
+use lib.Seq.{drop-cons, take-all}
+use Rattle.frame.proofs.BoolLaws.{and-left, and-right, and-intro, and-false, and-assoc}
+use Rattle.text.specs.Class.{isDigit}
+use Rattle.text.specs.Bytes.{all, same, positionOf, countOf}
+
+-- the laws that a loop over the list uses. What is still to be found out at place i is the test of the rest, from i
+pub all-go : (p : ℕ → Bool) (s : List ℕ) (i : ℕ) {r : Bool} → all p s ≡ all p (drop i s) → i < length s → r ≡ p (getD s i 0) → r ≡ true
+    → all p s ≡ all p (drop (i + 1) s)
+unfolding all
+all-go p s i e h q t = e ∙ rw (add-one, drop-cons s i 0, ← q, t) refl
+
+pub all-stop : (p : ℕ → Bool) (s : List ℕ) (i : ℕ) {r : Bool} → all p s ≡ all p (drop i s) → i < length s → r ≡ p (getD s i 0) → r ≡ false
+    → false ≡ all p s
+unfolding all
+all-stop p s i e h q t = sym (e ∙ rw (drop-cons s i 0, ← q, t) refl)
+
+pub all-end : (p : ℕ → Bool) (s : List ℕ) (i : ℕ) → all p s ≡ all p (drop i s) → length s ≤ i → true ≡ all p s
+unfolding all
+all-end p s i e h = sym (e ∙ rw (drop-of-length-le s h) refl)
+
+-- the same for two lists of one length
+module _ (s t : List ℕ) (i : ℕ) (l : length s ≡ length t) (e : same s t ≡ same (drop i s) (drop i t)) where
+  pub same-go : i < length s → getD s i 0 ≡ getD t i 0 → same s t ≡ same (drop (i + 1) s) (drop (i + 1) t)
+  unfolding same
+  same-go h q = let k : i < length t = rw l at h in e ∙ rw (add-one, drop-cons s i 0, drop-cons t i 0, eq-eqb _ _ q) refl
+
+  pub same-stop : i < length s → (getD s i 0 ≡ getD t i 0 → ⊥) → false ≡ same s t
+  unfolding same
+  same-stop h n = let k : i < length t = rw l at h in sym (e ∙ rw (drop-cons s i 0, drop-cons t i 0, ne-eqb _ _ n) refl)
+
+  pub same-end : length s ≤ i → true ≡ same s t
+  unfolding same
+  same-end h = let k : length t ≤ i = rw l at h in sym (e ∙ rw (drop-of-length-le s h, drop-of-length-le t k) refl)
+
+pub same-lengths : (s t : List ℕ) → (length s ≡ length t → ⊥) → false ≡ same s t
+unfolding same
+same-lengths [] [] n = absurd (n refl)
+same-lengths [] (y ∷ ys) n = refl
+same-lengths (x ∷ xs) [] n = refl
+same-lengths (x ∷ xs) (y ∷ ys) n = rw (← same-lengths xs ys (λ e. n (ap suc e)), and-false) refl
+
+module _ (b : ℕ) (s : List ℕ) (i : ℕ) (e : positionOf b s ≡ i + positionOf b (drop i s)) where
+  pub position-go : i < length s → (getD s i 0 ≡ b → ⊥) → positionOf b s ≡ (i + 1) + positionOf b (drop (i + 1) s)
+  unfolding positionOf
+  position-go h n =
+      let q : positionOf b (drop i s) ≡ suc (positionOf b (drop (i + 1) s)) = rw (add-one, drop-cons s i 0, ne-eqb _ _ n) refl in
+      omega (arith, q)
+
+  pub position-stop : i < length s → getD s i 0 ≡ b → i ≡ positionOf b s
+  unfolding positionOf
+  position-stop h t =
+      let q : positionOf b (drop i s) ≡ 0 = rw (drop-cons s i 0, eq-eqb _ _ t) refl in
+      omega (arith, q)
+
+  pub position-end : i ≤ length s → length s ≤ i → i ≡ positionOf b s
+  unfolding positionOf
+  position-end l h =
+      let q : positionOf b (drop i s) ≡ 0 = rw (drop-of-length-le s h) refl in
+      omega (arith, q)
+
+pub position-le : (b : ℕ) (s : List ℕ) → positionOf b s ≤ length s
+unfolding positionOf
+position-le b [] = zero-le
+position-le b (x ∷ xs) = at (eqb x b) (position-le b xs)
+  where
+    at : (t : Bool) → positionOf b xs ≤ length xs → cond t 0 (suc (positionOf b xs)) ≤ suc (length xs)
+    at true h = zero-le
+    at false h = suc-le-suc h
+
+module _ (b : ℕ) (s : List ℕ) (i n : ℕ) (e : countOf b s ≡ n + countOf b (drop i s)) where
+  pub count-hit : i < length s → getD s i 0 ≡ b → countOf b s ≡ (n + 1) + countOf b (drop (i + 1) s)
+  unfolding countOf
+  count-hit h t =
+      let q : countOf b (drop i s) ≡ 1 + countOf b (drop (i + 1) s) = rw (add-one, drop-cons s i 0, eq-eqb _ _ t) refl in
+      omega (arith, q)
+
+  pub count-miss : i < length s → (getD s i 0 ≡ b → ⊥) → countOf b s ≡ n + countOf b (drop (i + 1) s)
+  unfolding countOf
+  count-miss h t =
+      let q : countOf b (drop i s) ≡ 0 + countOf b (drop (i + 1) s) = rw (add-one, drop-cons s i 0, ne-eqb _ _ t) refl in
+      omega (arith, q)
+
+  pub count-end : length s ≤ i → n ≡ countOf b s
+  unfolding countOf
+  count-end h =
+      let q : countOf b (drop i s) ≡ 0 = rw (drop-of-length-le s h) refl in
+      omega (arith, q)
+
+-- what every byte passes, the byte at i passes
+pub all-get : (p : ℕ → Bool) (s : List ℕ) (i : ℕ) → all p s ≡ true → i < length s → p (getD s i 0) ≡ true
+unfolding all
+all-get p [] i e h = absurd (not-suc-le-zero h)
+all-get p (x ∷ xs) zero e h = and-left _ _ e
+all-get p (x ∷ xs) (suc i) e h = all-get p xs i (and-right (p x) _ e) (le-of-suc-le-suc h)
+
+pub digit-low : (b : ℕ) → isDigit b ≡ true → 48 ≤ b
+digit-low b e = leb-true _ _ (and-left _ _ e)
+
+pub digit-high : (b : ℕ) → isDigit b ≡ true → b ≤ 57
+digit-high b e = leb-true _ _ (and-right (leb 48 b) _ e)
+
+-- lists that are the same are equal
+pub same-refl : (s : List ℕ) → same s s ≡ true
+unfolding same
+same-refl [] = refl
+same-refl (x ∷ s) = and-intro (eqb x x) _ (eq-eqb x x refl) (same-refl s)
+
+pub same-true : (s t : List ℕ) → same s t ≡ true → s ≡ t
+unfolding same
+same-true [] [] e = refl
+same-true [] (y ∷ t) e = absurd (false≢true e)
+same-true (x ∷ s) [] e = absurd (false≢true e)
+same-true (x ∷ s) (y ∷ t) e = rw (eqb-true x y (and-left (eqb x y) _ e), same-true s t (and-right (eqb x y) _ e))
+
+-- a list made of two, compared with one list: front with front, rest with rest
+pub same-split : (a b s : List ℕ) → length a ≤ length s → same a (take (length a) s) && same b (drop (length a) s) ≡ same (a ++ b) s
+unfolding same
+same-split [] b s h = refl
+same-split (x ∷ a) b [] h = absurd (not-suc-le-zero h)
+same-split (x ∷ a) b (y ∷ s) h = sym (and-assoc (eqb x y) _ _) ∙ ap (λ (t : Bool). eqb x y && t) (same-split a b s (le-of-suc-le-suc h))
+
+-- what `&s[a..]` holds
+pub take-rest : (a : ℕ) (s : List ℕ) → take (length s - a) (drop a s) ≡ drop a s
+take-rest a s = take-all _ _ (le-of-eq (length-drop a s))

@@ -1,0 +1,41 @@
+-- The classes of bytes that the forms of document 01 are made of.
+-- Assumes nothing.
+use Prim.Native.Nat.{ℕ}
+use Prim.Native.Char.{code}
+use mathlib.Core.Bool.{Bool, true, false, _&&_, _||_, not}
+use lib.Dec.{leb, eqb}
+use Rattle.text.specs.declared.Class.{Class}
+use Rattle.text.specs.declared.Class.the-variants.{Digit, Capital, CapitalOrDigit, WordByte, RecordByte, BodyByte}
+
+-- 0 to 9
+abbrev pub isDigit : ℕ → Bool
+isDigit b = leb (code "0") b && leb b (code "9")
+
+-- A to Z
+abbrev pub isCapital : ℕ → Bool
+isCapital b = leb (code "A") b && leb b (code "Z")
+
+abbrev pub isCapitalOrDigit : ℕ → Bool
+isCapitalOrDigit b = isCapital b || isDigit b
+
+-- a byte of a control word: 0x20 to 0x7E without + ' : ?
+abbrev pub isWordByte : ℕ → Bool
+isWordByte b =
+    leb 0x20 b && leb b 0x7E
+    && not (eqb b (code "+")) && not (eqb b (code "'")) && not (eqb b (code ":")) && not (eqb b (code "?"))
+
+-- a byte of a record: no CR, LF or apostrophe
+abbrev pub isRecordByte : ℕ → Bool
+isRecordByte b = not (eqb b 13) && not (eqb b 10) && not (eqb b (code "'"))
+
+-- a byte of an envelope's body: no apostrophe
+abbrev pub isBodyByte : ℕ → Bool
+isBodyByte b = not (eqb b (code "'"))
+
+abbrev pub belongsTo : Class → ℕ → Bool
+belongsTo Digit b = isDigit b
+belongsTo Capital b = isCapital b
+belongsTo CapitalOrDigit b = isCapitalOrDigit b
+belongsTo WordByte b = isWordByte b
+belongsTo RecordByte b = isRecordByte b
+belongsTo BodyByte b = isBodyByte b

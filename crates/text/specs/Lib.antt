@@ -1,0 +1,4 @@
+pub mod Text
+pub mod Class
+pub mod Bytes
+pub mod Number

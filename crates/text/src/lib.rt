@@ -1,0 +1,213 @@
+// Bytes and slices of them: classes, comparison, search, parts, little-endian numbers.
+ghost use mathlib.Core.Path.{_≡_};
+ghost use Prim.Native.Nat.{_≤_, _<_, _^_};
+ghost use lib.ListN.{length, take, drop};
+ghost use Rattle.text.specs.Class.{belongsTo, isDigit, isCapital, isWordByte, isRecordByte};
+ghost use Rattle.text.specs.Bytes.{all as allOf, same, positionOf, countOf};
+ghost use Rattle.text.specs.Number.{littleEndian, lowBytes, numberAt, numberPut};
+
+// A class of bytes.
+pub enum Class {
+    Digit,
+    Capital,
+    CapitalOrDigit,
+    WordByte,
+    RecordByte,
+    BodyByte,
+}
+
+fn is_digit(b: u8) -> bool
+    ensures { λ r. ⌜ r ≡ isDigit b ⌝ }
+{
+    (b'0' <= b) & (b <= b'9')
+}
+
+fn is_capital(b: u8) -> bool
+    ensures { λ r. ⌜ r ≡ isCapital b ⌝ }
+{
+    (b'A' <= b) & (b <= b'Z')
+}
+
+fn is_word_byte(b: u8) -> bool
+    ensures { λ r. ⌜ r ≡ isWordByte b ⌝ }
+{
+    (0x20 <= b) & (b <= 0x7e) & !(b == b'+') & !(b == b'\'') & !(b == b':') & !(b == b'?')
+}
+
+fn is_record_byte(b: u8) -> bool
+    ensures { λ r. ⌜ r ≡ isRecordByte b ⌝ }
+{
+    !(b == b'\r') & !(b == b'\n') & !(b == b'\'')
+}
+
+// Whether the byte b is of the class c.
+pub fn belongs(c: Class, b: u8) -> bool
+    ensures { λ r. ⌜ r ≡ belongsTo c b ⌝ }
+{
+    match c {
+        Class::Digit => is_digit(b),
+        Class::Capital => is_capital(b),
+        Class::CapitalOrDigit => is_capital(b) | is_digit(b),
+        Class::WordByte => is_word_byte(b),
+        Class::RecordByte => is_record_byte(b),
+        Class::BodyByte => !(b == b'\''),
+    }
+}
+
+// Whether every byte of s is of the class c.
+pub fn all(c: Class, s: &[u8]) -> bool
+    ensures { λ r. ⌜ r ≡ allOf (belongsTo c) (now (s .entry)) ⌝ }
+{
+    let mut i = 0;
+    while i < s.len() {
+        if belongs(c, s[i]) {
+            i += 1;
+        } else {
+            return false;
+        }
+    }
+    true
+}
+
+// Whether a and b hold the same bytes.
+pub fn equal(a: &[u8], b: &[u8]) -> bool
+    ensures { λ r. ⌜ r ≡ same (now (a .entry)) (now (b .entry)) ⌝ }
+{
+    if a.len() != b.len() {
+        return false;
+    }
+    let mut i = 0;
+    while i < a.len() {
+        if a[i] == b[i] {
+            i += 1;
+        } else {
+            return false;
+        }
+    }
+    true
+}
+
+// Where b first stands in s; the length of s where it doesn't.
+pub fn position(s: &[u8], b: u8) -> usize
+    ensures { λ r. ⌜ r ≡ positionOf b (now (s .entry)) ⌝ }
+{
+    let mut i = 0;
+    while i < s.len() {
+        if s[i] == b {
+            return i;
+        }
+        i += 1;
+    }
+    i
+}
+
+// How often b stands in s.
+pub fn count(s: &[u8], b: u8) -> usize
+    ensures { λ r. ⌜ r ≡ countOf b (now (s .entry)) ⌝ }
+{
+    let mut n: usize = 0;
+    let mut i = 0;
+    while i < s.len() {
+        if s[i] == b {
+            n += 1;
+            i += 1;
+        } else {
+            i += 1;
+        }
+    }
+    n
+}
+
+// The first k bytes of s; all of s where it has fewer.
+pub fn front(s: &[u8], k: usize) -> &[u8]
+    ensures { λ r. ⌜ now r ≡ take k (now (s .entry)) ⌝ }
+{
+    if k <= s.len() { &s[..k] } else { s }
+}
+
+// What follows the first k bytes of s; nothing where it has fewer.
+pub fn rest(s: &[u8], k: usize) -> &[u8]
+    ensures { λ r. ⌜ now r ≡ drop k (now (s .entry)) ⌝ }
+{
+    if k <= s.len() { &s[k..] } else { &s[..0] }
+}
+
+// The number of up to eight bytes, the lowest first.
+fn number_of(w: &[u8]) -> u64
+    requires { ⌜ length (now w) ≤ 8 ⌝ }
+    ensures { λ r. ⌜ (r ≡ littleEndian (now (w .entry))) × (r < 256 ^ length (now (w .entry))) ⌝ }
+{
+    let mut value: u64 = 0;
+    let mut i = w.len();
+    while 0 < i {
+        i -= 1;
+        let b = w[i] as u64;
+        value = value * 256 + b;
+    }
+    value
+}
+
+// Writes the lowest bytes of x into w, as many as it has room for.
+fn put_number(w: &mut [u8], x: u64)
+    ensures { λ r. ⌜ now (w .exit) ≡ lowBytes (length (now (w .entry))) x ⌝ }
+{
+    let mut left = x;
+    let mut i = 0;
+    while i < w.len() {
+        w[i] = (left % 256) as u8;
+        left = left / 256;
+        i += 1;
+    }
+}
+
+// The number in the two bytes of s from a place on, the lowest first; 0 where they are not both there.
+pub fn read_u16(s: &[u8], at: usize) -> u16
+    ensures { λ r. ⌜ r ≡ numberAt 2 at (now (s .entry)) ⌝ }
+{
+    if s.len() < 2 {
+        return 0;
+    }
+    if s.len() - 2 < at {
+        return 0;
+    }
+    number_of(&s[at..at + 2]) as u16
+}
+
+// The number in the eight bytes of s from a place on, the lowest first; 0 where they are not all there.
+pub fn read_u64(s: &[u8], at: usize) -> u64
+    ensures { λ r. ⌜ r ≡ numberAt 8 at (now (s .entry)) ⌝ }
+{
+    if s.len() < 8 {
+        return 0;
+    }
+    if s.len() - 8 < at {
+        return 0;
+    }
+    number_of(&s[at..at + 8])
+}
+
+// Writes x into the two bytes of s from a place on, the lowest first; nothing where they are not both there.
+pub fn write_u16(s: &mut [u8], at: usize, x: u16)
+    ensures { λ r. ⌜ now (s .exit) ≡ numberPut 2 at x (now (s .entry)) ⌝ }
+{
+    if s.len() < 2 {
+        return;
+    }
+    if s.len() - 2 < at {
+        return;
+    }
+    put_number(&mut s[at..at + 2], x as u64);
+}
+
+// Writes x into the eight bytes of s from a place on, the lowest first; nothing where they are not all there.
+pub fn write_u64(s: &mut [u8], at: usize, x: u64)
+    ensures { λ r. ⌜ now (s .exit) ≡ numberPut 8 at x (now (s .entry)) ⌝ }
+{
+    if s.len() < 8 {
+        return;
+    }
+    if s.len() - 8 < at {
+        return;
+    }
+    put_number(&mut s[at..at + 8], x);
+}
