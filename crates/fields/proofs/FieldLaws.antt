@@ -1,0 +1,272 @@
+-- Laws of the field view and of the index: where the semicolons stand, that a field lies within its record, and that both give the same place.
+-- Assumes nothing.
+use Prim.Native.Nat.{ℕ, zero, suc, _+_, _-_, _<_, _≤_, zero-le}
+use Prim.Native.Char.{code}
+use mathlib.Core.Bool.{Bool, true, false, cond}
+use mathlib.Core.List.{List, [], _∷_, _++_, append-nil}
+use mathlib.Core.Path.{_≡_, refl, ap, sym, _∙_}
+use native.Mathlib.Nat.{not-suc-le-zero, le-of-suc-le-suc, le-of-lt, sub-zero, add-comm}
+use native.Mathlib.Numerals.{add-one}
+use native.Mathlib.Decide.{decLt, ℕ-discrete}
+use native.Mathlib.Omega.{arith}
+use borrow.Author.Tests.{eq-eqb, ne-eqb, le-leb, lt-leb, lt-ltb, le-ltb, eqb-true}
+use denote.Ref.{RefT, now, ptr}
+use lib.Dec.{eqb}
+use lib.ListN.{length, getD, take, drop, set, replicate, length-append, length-set, drop-of-length-le, List·getD-append, getD-replicate}
+use lib.Seq.{drop-cons, take-suc-set, append-snoc, length-take-le, take-all}
+use Rattle.frame.proofs.BoolLaws.{and-false}
+use Rattle.text.specs.Bytes.{countOf}
+use Rattle.fields.specs.declared.Place.{Place}
+use Rattle.fields.specs.Fields.{semicolonsFrom, semicolons, isWhole, fieldStart, fieldEnd, fieldPlace, fieldOf, Lies}
+use Rattle.fields.specs.Fields.{stopsOf, isWholeIndex, isPlaced, placeIn}
+
+-- the laws that the loop of the index uses. Found so far: the first stops; what is still to be found stands in the rest, from i
+module _ (s stops : List ℕ) (found i : ℕ) (e : semicolons s ≡ take found stops ++ semicolonsFrom i (drop i s)) where
+  pub semicolons-hit : i < length s → getD s i 0 ≡ code ";" → found < length stops
+      → semicolons s ≡ take (found + 1) (set stops found i) ++ semicolonsFrom (i + 1) (drop (i + 1) s)
+  unfolding semicolonsFrom
+  semicolons-hit h t f =
+      let q : semicolonsFrom i (drop i s) ≡ i ∷ semicolonsFrom (i + 1) (drop (i + 1) s) = rw (add-one, drop-cons s i 0, eq-eqb _ _ t) refl in
+      e ∙ rw (q, add-one found, take-suc-set stops found i) (sym (append-snoc (take found stops) i _))
+
+  pub semicolons-miss : i < length s → (getD s i 0 ≡ code ";" → ⊥) → semicolons s ≡ take found stops ++ semicolonsFrom (i + 1) (drop (i + 1) s)
+  unfolding semicolonsFrom
+  semicolons-miss h n = e ∙ rw (add-one, drop-cons s i 0, ne-eqb _ _ n) refl
+
+  pub semicolons-end : length s ≤ i → semicolons s ≡ take found stops
+  unfolding semicolonsFrom
+  semicolons-end h = e ∙ rw (drop-of-length-le s h) (append-nil _)
+
+-- a record is whole by the number of its semicolons
+semicolons-count : (at : ℕ) (s : List ℕ) → length (semicolonsFrom at s) ≡ countOf (code ";") s
+unfolding semicolonsFrom countOf
+semicolons-count at [] = refl
+semicolons-count at (x ∷ xs) = go (eqb x (code ";")) (semicolons-count (suc at) xs)
+  where
+    go : (t : Bool) → length (semicolonsFrom (suc at) xs) ≡ countOf (code ";") xs
+        → length (cond t (at ∷ semicolonsFrom (suc at) xs) (semicolonsFrom (suc at) xs)) ≡ cond t 1 0 + countOf (code ";") xs
+    go true e = omega arith
+    go false e = omega arith
+
+pub whole-count : (s : List ℕ) → isWhole s ≡ eqb (countOf (code ";") s) 38
+unfolding isWhole
+whole-count s = rw semicolons-count
+
+-- the index of a record that isn't whole, and of one that is
+stops-broken : (s : List ℕ) → isWhole s ≡ false → stopsOf s ≡ replicate 39 0
+unfolding stopsOf
+stops-broken s w = rw w refl
+
+stops-none : (s : List ℕ) → (length (semicolons s) ≡ 38 → ⊥) → replicate 39 0 ≡ stopsOf s
+unfolding isWhole
+stops-none s n = sym (stops-broken s (ne-eqb _ 38 n))
+
+stops-whole : (s : List ℕ) → isWhole s ≡ true → stopsOf s ≡ semicolons s ++ (length s ∷ [])
+unfolding stopsOf
+stops-whole s w = rw w refl
+
+-- what the index is where its loop ends: at a semicolon too many, behind too few, and behind 38 of them
+module _ (s stops : List ℕ) (found i : ℕ) (e : semicolons s ≡ take found stops ++ semicolonsFrom i (drop i s)) (sized : length stops ≡ 39) where
+  pub index-over : i < length s → getD s i 0 ≡ code ";" → found ≡ 38 → replicate 39 0 ≡ stopsOf s
+  unfolding semicolonsFrom
+  index-over h t f =
+      let rest : List ℕ = semicolonsFrom (suc i) (drop (suc i) s) in
+      let q : semicolonsFrom i (drop i s) ≡ i ∷ rest = rw (drop-cons s i 0, eq-eqb _ _ t) refl in
+      let l : length (semicolons s) ≡ found + suc (length rest) = ap length e ∙ rw (q, length-append, length-take-le found stops (omega arith)) refl in
+      stops-none s (λ k. omega arith)
+
+  pub index-under : length s ≤ i → found < 38 → replicate 39 0 ≡ stopsOf s
+  index-under h f =
+      let l : length (semicolons s) ≡ found = ap length (semicolons-end s stops found i e h) ∙ length-take-le found stops (omega arith) in
+      stops-none s (λ k. omega arith)
+
+  pub index-full : length s ≤ i → found ≤ 38 → 38 ≤ found → set stops 38 (length s) ≡ stopsOf s
+  unfolding isWhole
+  index-full h f g =
+      let n : found ≡ 38 = omega arith in
+      let q : semicolons s ≡ take 38 stops = semicolons-end s stops found i e h ∙ ap (λ (k : ℕ). take k stops) n in
+      let w : length (semicolons s) ≡ 38 = ap length q ∙ length-take-le 38 stops (omega arith) in
+      sym (stops-whole s (eq-eqb _ 38 w) ∙ rw q (sym (take-suc-set stops 38 (length s) (omega arith)))
+      ∙ take-all 39 (set stops 38 (length s)) (simp length-set (omega arith)))
+
+-- the empty part at the record's start
+abbrev pub emptyPlace : Place
+emptyPlace = record { start = 0; length = 0 }
+
+-- where a field lies by an index, as the tests of its number and of its end come out
+module _ (size : ℕ) (stops : List ℕ) (n : ℕ) where
+  pub place-below : n < 1 → emptyPlace ≡ placeIn size stops n
+  unfolding placeIn
+  place-below h = rw (lt-leb 1 n h) refl
+
+  pub place-above : 39 < n → emptyPlace ≡ placeIn size stops n
+  unfolding placeIn
+  place-above h = rw (lt-leb n 39 h, and-false) refl
+
+  pub place-beyond : size < getD stops (n - 1) 0 → emptyPlace ≡ placeIn size stops n
+  unfolding placeIn isPlaced
+  place-beyond h = rw (lt-leb _ size h, and-false) refl
+
+  pub place-first : n ≡ 1 → getD stops (n - 1) 0 ≤ size → record { start = 0; length = getD stops (n - 1) 0 } ≡ placeIn size stops n
+  unfolding placeIn isPlaced
+  place-first e h = rw (le-leb _ size h, e, sub-zero) refl
+
+  pub place-next : 1 ≤ n → n ≤ 39 → (n ≡ 1 → ⊥) → getD stops (n - 1) 0 ≤ size → getD stops (n - 2) 0 < getD stops (n - 1) 0
+      → record { start = getD stops (n - 2) 0 + 1; length = getD stops (n - 1) 0 - (getD stops (n - 2) 0 + 1) } ≡ placeIn size stops n
+  unfolding placeIn isPlaced
+  place-next low high m h r = rw (add-one, le-leb 1 n low, le-leb n 39 high, ne-eqb n 1 m, le-leb _ size h, lt-ltb _ _ r) refl
+
+  pub place-unordered : (n ≡ 1 → ⊥) → getD stops (n - 1) 0 ≤ getD stops (n - 2) 0 → emptyPlace ≡ placeIn size stops n
+  unfolding placeIn isPlaced
+  place-unordered m r = rw (ne-eqb n 1 m, le-ltb _ _ r, and-false, and-false) refl
+
+  -- whatever the index says, what it points out lies within the record
+  pub place-inside : placeIn size stops n .start + placeIn size stops n .length ≤ size
+  place-inside = go (decLt n 1) (decLt 39 n) (decLt size (getD stops (n - 1) 0)) (ℕ-discrete n 1) (decLt (getD stops (n - 2) 0) (getD stops (n - 1) 0))
+    where
+      go : Dec (n < 1) → Dec (39 < n) → Dec (size < getD stops (n - 1) 0) → Dec (n ≡ 1) → Dec (getD stops (n - 2) 0 < getD stops (n - 1) 0)
+          → placeIn size stops n .start + placeIn size stops n .length ≤ size
+      go (yes a) b c d e = rw (← place-below a) (omega arith)
+      go (no a) (yes b) c d e = rw (← place-above b) (omega arith)
+      go (no a) (no b) (yes c) d e = rw (← place-beyond c) (omega arith)
+      go (no a) (no b) (no c) (yes d) e = rw (← place-first d (omega arith)) (omega arith)
+      go (no a) (no b) (no c) (no d) (yes e) = rw (← place-next (omega arith) (omega arith) d (omega arith) e) (omega arith)
+      go (no a) (no b) (no c) (no d) (no e) = rw (← place-unordered d (omega arith)) (omega arith)
+
+-- numbers from low to high, each above the one before
+record Rising (low high : ℕ) (ks : List ℕ) : Type 0 where
+  from : (k : ℕ) → k < length ks → low ≤ getD ks k 0
+  within : (k : ℕ) → getD ks k 0 ≤ high
+  rises : (k : ℕ) → suc k < length ks → getD ks k 0 < getD ks (suc k) 0
+
+rising-last : (low high : ℕ) → low ≤ high → Rising low high (high ∷ [])
+rising-last low high h = record { from = from; within = within; rises = λ k g. absurd (not-suc-le-zero (le-of-suc-le-suc g)) }
+  where
+    from : (k : ℕ) → k < 1 → low ≤ getD (high ∷ []) k 0
+    from zero g = h
+    from (suc k) g = absurd (not-suc-le-zero (le-of-suc-le-suc g))
+
+    within : (k : ℕ) → getD (high ∷ []) k 0 ≤ high
+    within zero = omega arith
+    within (suc k) = zero-le
+
+rising-more : (low high : ℕ) (ks : List ℕ) → low ≤ high → Rising (suc low) high ks → Rising low high (low ∷ ks)
+rising-more low high ks h r = record { from = from; within = within; rises = rises }
+  where
+    from : (k : ℕ) → k < suc (length ks) → low ≤ getD (low ∷ ks) k 0
+    from zero g = omega arith
+    from (suc k) g = omega (arith, r .from k (le-of-suc-le-suc g))
+
+    within : (k : ℕ) → getD (low ∷ ks) k 0 ≤ high
+    within zero = h
+    within (suc k) = r .within k
+
+    rises : (k : ℕ) → suc k < suc (length ks) → getD (low ∷ ks) k 0 < getD ks k 0
+    rises zero g = r .from zero (le-of-suc-le-suc g)
+    rises (suc k) g = r .rises k (le-of-suc-le-suc g)
+
+-- the ends of the parts rise: each semicolon, and behind them the list's own end
+ends-rising : (size at : ℕ) (s : List ℕ) → at + length s ≡ size → Rising at size (semicolonsFrom at s ++ (size ∷ []))
+unfolding semicolonsFrom
+ends-rising size at [] e = rising-last at size (omega arith)
+ends-rising size at (x ∷ xs) e = go (eqb x (code ";")) (ends-rising size (suc at) xs (omega arith))
+  where
+    go : (t : Bool) → Rising (suc at) size (semicolonsFrom (suc at) xs ++ (size ∷ []))
+        → Rising at size (cond t (at ∷ semicolonsFrom (suc at) xs) (semicolonsFrom (suc at) xs) ++ (size ∷ []))
+    go true r = rising-more at size _ (omega arith) r
+    go false r = record { from = λ k h. le-of-lt (r .from k h); within = r .within; rises = r .rises }
+
+-- the index of a whole record
+module _ (s : List ℕ) (w : isWhole s ≡ true) where
+  semicolons-whole : length (semicolons s) ≡ 38
+  unfolding isWhole
+  semicolons-whole = eqb-true _ _ w
+
+  stops-rising : Rising 0 (length s) (stopsOf s)
+  stops-rising = rw (stops-whole s w) (ends-rising (length s) 0 s (omega arith))
+
+  stops-length : length (stopsOf s) ≡ 39
+  stops-length = rw (stops-whole s w, length-append, semicolons-whole) refl
+
+  pub stops-within : (k : ℕ) → getD (stopsOf s) k 0 ≤ length s
+  stops-within = stops-rising .within
+
+  pub stops-rise : (n : ℕ) → 2 ≤ n → n ≤ 39 → getD (stopsOf s) (n - 2) 0 < getD (stopsOf s) (n - 1) 0
+  stops-rise n low high =
+      let next : n - 1 ≡ suc (n - 2) = omega arith in
+      rw next (stops-rising .rises (n - 2) (rw stops-length (omega arith)))
+
+  stop-semicolon : (n : ℕ) → 2 ≤ n → n ≤ 39 → getD (stopsOf s) (n - 2) 0 ≡ getD (semicolons s) (n - 2) 0
+  stop-semicolon n low high = rw (stops-whole s w) (List·getD-append (semicolons s) _ 0 (n - 2) (rw semicolons-whole (omega arith)))
+
+pub whole-index : (s : List ℕ) → isWholeIndex (stopsOf s) ≡ isWhole s
+whole-index s = go (isWhole s) refl
+  where
+    go : (b : Bool) → isWhole s ≡ b → isWholeIndex (stopsOf s) ≡ b
+    go true w = lt-ltb 0 (getD (stopsOf s) 38 0) (omega (arith, stops-rise s w 39 (omega arith) (omega arith)))
+    go false w = rw (stops-broken s w) refl
+
+-- where the field view says that a field lies
+module _ (s : List ℕ) (n : ℕ) where
+  field-broken : isWhole s ≡ false → fieldPlace s n ≡ emptyPlace
+  unfolding fieldPlace
+  field-broken w = rw w refl
+
+  field-below : n < 1 → fieldPlace s n ≡ emptyPlace
+  unfolding fieldPlace
+  field-below h = rw (lt-leb 1 n h, and-false) refl
+
+  field-above : 39 < n → fieldPlace s n ≡ emptyPlace
+  unfolding fieldPlace
+  field-above h = rw (lt-leb n 39 h, and-false) refl
+
+  field-first : isWhole s ≡ true → n ≡ 1 → fieldPlace s n ≡ record { start = 0; length = getD (stopsOf s) (n - 1) 0 }
+  unfolding fieldPlace fieldStart fieldEnd
+  field-first w e = rw (w, e, stops-whole s w, sub-zero) refl
+
+  field-next : isWhole s ≡ true → 2 ≤ n → n ≤ 39
+      → fieldPlace s n ≡ record { start = getD (stopsOf s) (n - 2) 0 + 1; length = getD (stopsOf s) (n - 1) 0 - (getD (stopsOf s) (n - 2) 0 + 1) }
+  unfolding fieldPlace fieldStart fieldEnd
+  field-next w low high =
+      rw (w, le-leb 1 n (omega arith), le-leb n 39 high, ne-eqb n 1 (omega arith), stop-semicolon s w n low high, add-one, stops-whole s w) refl
+
+  -- the index gives each field the place that the field view gives it
+  pub placed : placeIn (length s) (stopsOf s) n ≡ fieldPlace s n
+  placed = go (isWhole s) refl (decLt n 1) (decLt 39 n) (ℕ-discrete n 1)
+    where
+      go : (b : Bool) → isWhole s ≡ b → Dec (n < 1) → Dec (39 < n) → Dec (n ≡ 1) → placeIn (length s) (stopsOf s) n ≡ fieldPlace s n
+      go b w (yes l) h f = sym (place-below (length s) (stopsOf s) n l) ∙ sym (field-below l)
+      go b w (no l) (yes h) f = sym (place-above (length s) (stopsOf s) n h) ∙ sym (field-above h)
+      go true w (no l) (no h) (yes f) = sym (place-first (length s) (stopsOf s) n f (stops-within s w (n - 1))) ∙ sym (field-first w f)
+      go true w (no l) (no h) (no f) =
+          let low : 2 ≤ n = omega arith in
+          let high : n ≤ 39 = omega arith in
+          sym (place-next (length s) (stopsOf s) n (omega arith) high f (stops-within s w (n - 1)) (stops-rise s w n low high)) ∙ sym (field-next w low high)
+      go false w (no l) (no h) (yes f) =
+          sym (place-first (length s) (stopsOf s) n f (rw (stops-broken s w, f) zero-le)) ∙ rw (field-broken w, stops-broken s w, f) refl
+      go false w (no l) (no h) (no f) =
+          let none : getD {A = ℕ} (replicate 39 0) (n - 1) 0 ≡ 0 = getD-replicate 39 (n - 1) 0 0 (omega arith) in
+          sym (place-unordered (length s) (stopsOf s) n f (rw (stops-broken s w, none) zero-le)) ∙ sym (field-broken w)
+
+  pub field-inside : fieldPlace s n .start + fieldPlace s n .length ≤ length s
+  field-inside = rw (← placed) (place-inside (length s) (stopsOf s) n)
+
+-- the bytes of what lies where the field view says
+pub lies-field : (s : RefT (List ℕ)) (n : ℕ) {r : RefT (List ℕ)} → Lies s (fieldPlace (now s) n) r → now r ≡ fieldOf (now s) n
+unfolding fieldOf
+lies-field s n h = h .bytes
+
+-- what `part` lends, from the place's start to its end, lies at the place
+pub lent-inside : (size : ℕ) (stops : List ℕ) (n : ℕ) {p : Place} → p ≡ placeIn size stops n → p .start + p .length ≤ size
+lent-inside size stops n e = rw e (place-inside size stops n)
+
+pub lent-lies : (s : RefT (List ℕ)) {p q : Place} → p ≡ q → (r : RefT (List ℕ))
+    → now r ≡ take (p .start + p .length - p .start) (drop (p .start) (now s)) → ptr r ≡ (ptr s .0, p .start + ptr s .1) → Lies s q r
+lent-lies s {p} e r b a =
+    let l : p .start + p .length - p .start ≡ p .length = omega arith in
+    record { bytes = b ∙ rw (l, e) refl; address = a ∙ rw (add-comm (p .start) (ptr s .1), e) refl }
+
+-- what lies where the index of the record says, lies where the field view says
+pub indexed-lies : (s : RefT (List ℕ)) (n : ℕ) {stops : List ℕ} {r : RefT (List ℕ)} → stops ≡ stopsOf (now s)
+    → Lies s (placeIn (length (now s)) stops n) r → Lies s (fieldPlace (now s) n) r
+indexed-lies s n e h = rw (e, placed (now s) n) at h

@@ -1,0 +1,69 @@
+-- The field view of document 01: the parts of a record between its semicolons; and an index of all of them.
+-- Assumes nothing.
+use Prim.Native.Nat.{ℕ, suc, _+_, _-_}
+use Prim.Native.Char.{code}
+use mathlib.Core.Bool.{Bool, true, false, _&&_, _||_, cond}
+use mathlib.Core.List.{List, [], _∷_, _++_}
+use mathlib.Core.Path.{_≡_}
+use denote.Ref.{RefT, now, ptr}
+use lib.Dec.{leb, ltb, eqb}
+use lib.ListN.{length, getD, take, drop, replicate}
+use Rattle.fields.specs.declared.Place.{Place}
+
+-- the places of the semicolons, the first byte standing at the given place
+unfoldable pub semicolonsFrom : ℕ → List ℕ → List ℕ
+semicolonsFrom at [] = []
+semicolonsFrom at (x ∷ xs) = cond (eqb x (code ";")) (at ∷ semicolonsFrom (suc at) xs) (semicolonsFrom (suc at) xs)
+
+abbrev pub semicolons : List ℕ → List ℕ
+semicolons s = semicolonsFrom 0 s
+
+-- a record has 38 semicolons
+unfoldable pub isWhole : List ℕ → Bool
+isWhole s = eqb (length (semicolons s)) 38
+
+-- where field n begins and ends: behind the semicolon before it, field 1 at the start; at the semicolon after it, field 39 at the end
+unfoldable pub fieldStart : List ℕ → ℕ → ℕ
+fieldStart s n = cond (eqb n 1) 0 (suc (getD (semicolons s) (n - 2) 0))
+
+unfoldable pub fieldEnd : List ℕ → ℕ → ℕ
+fieldEnd s n = getD (semicolons s ++ (length s ∷ [])) (n - 1) 0
+
+-- where field n lies; the empty part at the record's start for a number outside 1 to 39, or a record without 38 semicolons
+unfoldable pub fieldPlace : List ℕ → ℕ → Place
+fieldPlace s n =
+    cond (isWhole s && leb 1 n && leb n 39)
+    (record { start = fieldStart s n; length = fieldEnd s n - fieldStart s n })
+    (record { start = 0; length = 0 })
+
+-- the bytes that lie at a place
+abbrev pub bytesAt : List ℕ → Place → List ℕ
+bytesAt s p = take (p .length) (drop (p .start) s)
+
+-- "The field view": the bytes of field n
+unfoldable pub fieldOf : List ℕ → ℕ → List ℕ
+fieldOf s n = bytesAt s (fieldPlace s n)
+
+-- The index of a record: where each of its fields ends, in order; all 0 for a record without 38 semicolons.
+unfoldable pub stopsOf : List ℕ → List ℕ
+stopsOf s = cond (isWhole s) (semicolons s ++ (length s ∷ [])) (replicate 39 0)
+
+-- whether an index is that of a record with 38 semicolons
+abbrev pub isWholeIndex : List ℕ → Bool
+isWholeIndex stops = ltb 0 (getD stops 38 0)
+
+-- field n ends within the record, and behind the end of the field before it
+unfoldable pub isPlaced : ℕ → List ℕ → ℕ → Bool
+isPlaced size stops n = leb (getD stops (n - 1) 0) size && (eqb n 1 || ltb (getD stops (n - 2) 0) (getD stops (n - 1) 0))
+
+-- where field n lies by an index, in a record of the given size; the empty part at the start where the index doesn't say
+unfoldable pub placeIn : ℕ → List ℕ → ℕ → Place
+placeIn size stops n =
+    cond (leb 1 n && leb n 39 && isPlaced size stops n)
+    (let start = cond (eqb n 1) 0 (suc (getD stops (n - 2) 0)) in record { start = start; length = getD stops (n - 1) 0 - start })
+    (record { start = 0; length = 0 })
+
+-- a part of s: its bytes are those at the place, and it lies there in the caller's memory
+pub record Lies (s : RefT (List ℕ)) (p : Place) (r : RefT (List ℕ)) : Type 0 where
+  pub bytes : now r ≡ bytesAt (now s) p
+  pub address : ptr r ≡ (ptr s .0, ptr s .1 + p .start)
