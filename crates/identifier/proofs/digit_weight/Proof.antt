@@ -1,0 +1,22 @@
+use mathlib.Core.Path.{refl}
+use borrow.Author.Needs.{needs}
+use Rattle.identifier.proofs.digit_weight.Statement.{statement}
+use Rattle.identifier.proofs.digit_weight.Tie as tie
+
+mul-result : tie.Need-mul-result
+mul-result c = search needs
+
+mul-result-2 : tie.Need-mul-result-2
+mul-result-2 c = search needs
+
+add-result : tie.Need-add-result
+add-result c = search needs
+
+returns : tie.Need-returns
+returns c = (rw (c .if1 .taken) refl, search needs)
+
+returns-2 : tie.Need-returns-2
+returns-2 c = search needs
+
+pub digit-weight-spec : {M : Type 1} → statement M
+digit-weight-spec = tie.close (tie.spec mul-result mul-result-2 add-result returns returns-2)

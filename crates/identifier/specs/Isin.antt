@@ -1,0 +1,47 @@
+-- The ISIN of ISO 6166: its form and its check digit, as document 01 words them.
+-- Assumes nothing.
+use Prim.Native.Nat.{ℕ, _+_, _-_, _*_, _/_, _%_}
+use Prim.Native.Char.{code}
+use mathlib.Core.Bool.{Bool, true, _&&_, not, cond}
+use mathlib.Core.List.{List, [], _∷_, _++_, reverse}
+use lib.Dec.{eqb}
+use lib.ListN.{length, getD, take, drop}
+use Rattle.text.specs.Class.{isDigit, isCapital, isCapitalOrDigit}
+use Rattle.text.specs.Bytes.{all}
+
+-- "ISIN form": two capitals, nine capitals or digits, a digit
+unfoldable pub isinForm : List ℕ → Bool
+isinForm s = eqb (length s) 12 && all isCapital (take 2 s) && all isCapitalOrDigit (take 9 (drop 2 s)) && all isDigit (drop 11 s)
+
+-- the value of a digit; a letter becomes 10 to 35
+unfoldable pub valueOf : ℕ → ℕ
+valueOf b = cond (isDigit b) (b - code "0") (b - code "A" + 10)
+
+-- the digits of a value, one or two, and those that a text becomes, in order
+unfoldable pub digitsOf : ℕ → List ℕ
+digitsOf b = cond (isDigit b) (valueOf b ∷ []) (valueOf b / 10 ∷ valueOf b % 10 ∷ [])
+
+unfoldable pub digits : List ℕ → List ℕ
+digits [] = []
+digits (b ∷ bs) = digitsOf b ++ digits bs
+
+-- a digit doubled, and its digits added
+abbrev pub doubled : ℕ → ℕ
+doubled d = 2 * d / 10 + 2 * d % 10
+
+-- the sum over digits of which the first, third and so on are doubled where the flag says so, else the second, fourth and so on
+unfoldable pub weighted : Bool → List ℕ → ℕ
+weighted double [] = 0
+weighted double (d ∷ ds) = cond double (doubled d) d + weighted (not double) ds
+
+-- the sum over the digits of what stands before the check digit, from the last of them leftwards
+unfoldable pub digitSum : List ℕ → ℕ
+digitSum s = weighted true (reverse (digits s))
+
+-- "check digit" is right: the sum with it is a multiple of 10. It is the twelfth byte
+unfoldable pub checkDigitRight : List ℕ → Bool
+checkDigitRight s = eqb ((digitSum (take 11 s) + valueOf (getD s 11 0)) % 10) 0
+
+-- a valid ISIN: of the form, with the right check digit
+abbrev pub validIsin : List ℕ → Bool
+validIsin s = isinForm s && checkDigitRight s
