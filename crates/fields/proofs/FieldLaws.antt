@@ -17,7 +17,7 @@ use lib.Seq.{drop-cons, take-suc-set, append-snoc, length-take-le, take-all}
 use Rattle.frame.proofs.BoolLaws.{and-false}
 use Rattle.text.specs.Bytes.{countOf}
 use Rattle.fields.specs.declared.Place.{Place}
-use Rattle.fields.specs.Fields.{semicolonsFrom, semicolons, isWhole, fieldStart, fieldEnd, fieldPlace, fieldOf, Lies}
+use Rattle.fields.specs.Fields.{semicolonsFrom, semicolons, isWhole, fieldStart, fieldEnd, emptyPlace, fieldPlace, fieldOf, Lies}
 use Rattle.fields.specs.Fields.{stopsOf, isWholeIndex, isPlaced, placeIn}
 
 -- the laws that the loop of the index uses. Found so far: the first stops; what is still to be found stands in the rest, from i
@@ -88,10 +88,6 @@ module _ (s stops : List ℕ) (found i : ℕ) (e : semicolons s ≡ take found s
       let w : length (semicolons s) ≡ 38 = ap length q ∙ length-take-le 38 stops (omega arith) in
       sym (stops-whole s (eq-eqb _ 38 w) ∙ rw q (sym (take-suc-set stops 38 (length s) (omega arith)))
       ∙ take-all 39 (set stops 38 (length s)) (simp length-set (omega arith)))
-
--- the empty part at the record's start
-abbrev pub emptyPlace : Place
-emptyPlace = record { start = 0; length = 0 }
 
 -- where a field lies by an index, as the tests of its number and of its end come out
 module _ (size : ℕ) (stops : List ℕ) (n : ℕ) where

@@ -29,12 +29,16 @@ fieldStart s n = cond (eqb n 1) 0 (suc (getD (semicolons s) (n - 2) 0))
 unfoldable pub fieldEnd : List ℕ → ℕ → ℕ
 fieldEnd s n = getD (semicolons s ++ (length s ∷ [])) (n - 1) 0
 
--- where field n lies; the empty part at the record's start for a number outside 1 to 39, or a record without 38 semicolons
+-- the empty part at the record's start
+abbrev pub emptyPlace : Place
+emptyPlace = record { start = 0; length = 0 }
+
+-- where field n lies; the empty part for a number outside 1 to 39, or a record without 38 semicolons
 unfoldable pub fieldPlace : List ℕ → ℕ → Place
 fieldPlace s n =
     cond (isWhole s && leb 1 n && leb n 39)
     (record { start = fieldStart s n; length = fieldEnd s n - fieldStart s n })
-    (record { start = 0; length = 0 })
+    emptyPlace
 
 -- the bytes that lie at a place
 abbrev pub bytesAt : List ℕ → Place → List ℕ
@@ -56,12 +60,12 @@ isWholeIndex stops = ltb 0 (getD stops 38 0)
 unfoldable pub isPlaced : ℕ → List ℕ → ℕ → Bool
 isPlaced size stops n = leb (getD stops (n - 1) 0) size && (eqb n 1 || ltb (getD stops (n - 2) 0) (getD stops (n - 1) 0))
 
--- where field n lies by an index, in a record of the given size; the empty part at the start where the index doesn't say
+-- where field n lies by an index, in a record of the given size; the empty part where the index doesn't say
 unfoldable pub placeIn : ℕ → List ℕ → ℕ → Place
 placeIn size stops n =
     cond (leb 1 n && leb n 39 && isPlaced size stops n)
     (let start = cond (eqb n 1) 0 (suc (getD stops (n - 2) 0)) in record { start = start; length = getD stops (n - 1) 0 - start })
-    (record { start = 0; length = 0 })
+    emptyPlace
 
 -- a part of s: its bytes are those at the place, and it lies there in the caller's memory
 pub record Lies (s : RefT (List ℕ)) (p : Place) (r : RefT (List ℕ)) : Type 0 where

@@ -1,7 +1,7 @@
 // The fields of a record, as parts of the caller's slice.
 ghost use mathlib.Core.Path.{_≡_};
 ghost use lib.ListN.{length};
-ghost use Rattle.fields.specs.Fields.{stopsOf, isWholeIndex, placeIn, fieldPlace, Lies};
+ghost use Rattle.fields.specs.Fields.{stopsOf, isWholeIndex, emptyPlace, placeIn, fieldPlace, Lies};
 
 // Where a part lies in a record.
 pub struct Place {
@@ -42,28 +42,29 @@ pub fn is_whole(stops: &[usize; 39]) -> bool
     0 < stops[38]
 }
 
-// Where field n lies by an index, in a record of the given size; the empty part at the start where the index doesn't say.
+// The empty part at the record's start.
+fn empty_place() -> Place
+    ensures { λ r. ⌜ r ≡ emptyPlace ⌝ }
+{
+    Place {
+        start: 0,
+        length: 0,
+    }
+}
+
+// Where field n lies by an index, in a record of the given size; the empty part where the index doesn't say.
 pub fn place_of(size: usize, stops: &[usize; 39], n: usize) -> Place
     ensures { λ r. ⌜ r ≡ placeIn size (now (stops .entry)) n ⌝ }
 {
     if n < 1 {
-        return Place {
-            start: 0,
-            length: 0,
-        };
+        return empty_place();
     }
     if 39 < n {
-        return Place {
-            start: 0,
-            length: 0,
-        };
+        return empty_place();
     }
     let end = stops[n - 1];
     if size < end {
-        return Place {
-            start: 0,
-            length: 0,
-        };
+        return empty_place();
     }
     if n == 1 {
         return Place {
@@ -78,10 +79,7 @@ pub fn place_of(size: usize, stops: &[usize; 39], n: usize) -> Place
             length: end - (before + 1),
         }
     } else {
-        Place {
-            start: 0,
-            length: 0,
-        }
+        empty_place()
     }
 }
 

@@ -13,7 +13,8 @@ use lib.ListN.{length}
 use borrow.Author.Tests.{eqb-true, eqb-false, eq-eqb, ne-eqb, ltb-true, ltb-false, lt-ltb, le-ltb}
 use Rattle.frame.specs.Parts.{part, put}
 use Rattle.frame.specs.Every.{every}
-use Rattle.frame.specs.Isolation.{Rules, Reply, refused, answer, Outcome, refusedBy, soundLedger, compartment, act, single, replies, ledgerAfter, ownReplies, answersFor, isStep, steps, loneAnswers, loneState, bankAfterBank, Isolated}
+use Rattle.frame.specs.Isolation.{Rules, Reply, refused, answer, Outcome, refusedBy, soundLedger, compartment, act, single, replies, ledgerAfter}
+use Rattle.frame.specs.Isolation.{ownReplies, answersFor, isStep, steps, loneAnswers, loneState, bankAfterBank, Isolated}
 use Rattle.frame.proofs.BoolLaws.{and-left, and-right, and-intro}
 use Rattle.frame.proofs.EveryLaws.{every-at, every-intro}
 use Rattle.frame.proofs.PartLaws.{before, part-put, part-put-other, put-length, parts-ext}
@@ -211,9 +212,11 @@ module _ (R : Rules) (H : Lawful R) where
         idle = λ c none. after-last cs c l ∙ single-idle c _ (after-sound cs l h) none;
         sameLedger =
             parts-ext size banks (H .size-positive) _ _ (sound-size _ (after-sound after l h)) (sound-size _ (after-sound cs l h))
-            (λ r rh. lone-state r rh after l h ∙ ap (λ (ss : List Call). loneState R ss (compartment R r l)) (steps-banks banks r rh cs) ∙ sym (lone-state r rh cs l h));
+            (λ r rh. lone-state r rh after l h
+            ∙ ap (λ (ss : List Call). loneState R ss (compartment R r l)) (steps-banks banks r rh cs) ∙ sym (lone-state r rh cs l h));
         sameAnswers = λ r rh.
-            lone-answers r rh after l h ∙ ap (λ (ss : List Call). loneAnswers R ss (compartment R r l)) (steps-banks banks r rh cs) ∙ sym (lone-answers r rh cs l h);
+            lone-answers r rh after l h
+            ∙ ap (λ (ss : List Call). loneAnswers R ss (compartment R r l)) (steps-banks banks r rh cs) ∙ sym (lone-answers r rh cs l h);
       }
 
 -- The three cases of one call: refused, a stranger's, and a step. A contract's proof cites one at each return.

@@ -25,7 +25,10 @@ is-real-day-requires c κs = search needs
 returns : tie.Need-returns
 unfolding realDate
 returns c =
-    rw (c .is-real-day .ensures, c .before .two-at4 .ensures, c .before .before .two-at3 .ensures, c .before .before .before .two-at2 .ensures, c .before .before .before .before .two-at .ensures, c .before .before .before .before .before .is-digits .ensures) refl
+    let days = c .before .before in
+    let years = days .before .before in
+    rw (c .is-real-day .ensures, c .before .two-at4 .ensures, days .two-at3 .ensures, days .before .two-at2 .ensures)
+    (rw (years .two-at .ensures, years .before .is-digits .ensures) refl)
 
 pub is-real-date-spec : {M : Type 1} → statement M
 is-real-date-spec =

@@ -47,7 +47,10 @@ loop-less : tie.Need-loop-less Inv-loop μ-loop
 loop-less c = search needs
 
 loop-again : tie.Need-loop-again Inv-loop μ-loop
-loop-again c = (search needs, number-go _ _ _ (c .before .before .before .loop .inv .1) (c .before .before .loop-test .taken) (c .digit .ensures .0), digit-more 10 _ _ _ (c .before .before .before .loop .inv .2) (c .digit .ensures .1))
+loop-again c =
+    let turn = c .before .before in
+    let inv = turn .before .loop .inv in
+    (search needs, number-go _ _ _ (inv .1) (turn .loop-test .taken) (c .digit .ensures .0), digit-more 10 _ _ _ (inv .2) (c .digit .ensures .1))
 
 returns : tie.Need-returns Inv-loop μ-loop
 returns c = number-end _ _ _ (c .before .loop .inv .1) (c .loop-test .left)

@@ -37,7 +37,9 @@ read-whole-requires : tie.Need-read-whole-requires
 read-whole-requires c κs = search needs
 
 returns-3 : tie.Need-returns-3
-returns-3 c = with-part _ _ _ _ (omega arith) (c .before .before .before .before .position .ensures) (c .before .before .before .if3 .taken) (c .read-both .ensures)
+returns-3 c =
+    let found = c .before .before .before in
+    with-part _ _ _ _ (omega arith) (found .before .position .ensures) (found .if3 .taken) (c .read-both .ensures)
 
 returns-4 : tie.Need-returns-4
 returns-4 c = no-part _ _ _ _ (omega arith) (c .before .before .position .ensures) (c .before .if3 .left) (c .read-whole .ensures)

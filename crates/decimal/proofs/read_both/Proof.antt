@@ -21,7 +21,9 @@ whole : (c : tie.Then1) → let a = c .before .before .before .before .before .a
 whole c = and-left _ _ (tests (c .before) ∙ c .if1 .taken)
 
 part : (c : tie.Then1) → let a = c .before .before .before .before .before .args in digitsUpTo (a .n) (now (a .f)) ≡ true
-part c = and-right (digitsUpTo (c .before .before .before .before .before .args .m) (now (c .before .before .before .before .before .args .w))) _ (tests (c .before) ∙ c .if1 .taken)
+part c =
+    let a = c .before .before .before .before .before .args in
+    and-right (digitsUpTo (a .m) (now (a .w))) _ (tests (c .before) ∙ c .if1 .taken)
 
 is-digits-requires : tie.Need-is-digits-requires
 is-digits-requires c κs = search needs
@@ -31,7 +33,8 @@ is-digits-requires-2 c κs = search needs
 
 scaled-requires : tie.Need-scaled-requires
 scaled-requires c κs = let e = whole c in
-    (omega (arith, upto-length (c .before .before .before .before .before .args .m) (now (c .before .before .before .before .before .args .w)) e), upto-digits _ _ e)
+    let a = c .before .before .before .before .before .args in
+    (omega (arith, upto-length (a .m) (now (a .w)) e), upto-digits _ _ e)
 
 sub-scaled : tie.Need-sub-scaled
 sub-scaled c = upto-length _ _ (part (c .before))
@@ -47,7 +50,8 @@ add-t13 c = let b = c .before .before in
     let a = b .before .before .before .before .before .args in
     let l : length (now (a .f)) ≤ a .n = upto-length _ _ (part b) in
     let k : length (now (a .w)) + a .n ≤ 19 = omega (arith, upto-length (a .m) (now (a .w)) (whole b)) in
-    rw (c .before .scaled .ensures, c .scaled2 .ensures) (record { fits = fits-word (both-below (now (a .w)) (now (a .f)) (a .n) (upto-digits _ _ (whole b)) (upto-digits _ _ (part b)) l) k })
+    let below = both-below (now (a .w)) (now (a .f)) (a .n) (upto-digits _ _ (whole b)) (upto-digits _ _ (part b)) l in
+    rw (c .before .scaled .ensures, c .scaled2 .ensures) (record { fits = fits-word below k })
 
 returns : tie.Need-returns
 returns c = both-yes _ _ _ _ (tests (c .before .before .before) ∙ c .before .before .if1 .taken) (c .before .scaled .ensures) (c .scaled2 .ensures)

@@ -10,7 +10,9 @@ power-requires : tie.Need-power-requires
 power-requires c κs = search needs
 
 mul-result : tie.Need-mul-result
-mul-result c = rw (c .before .number-of .ensures, c .power .ensures) (record { fits = fits-word (scaled-below _ _ (c .before .before .before .pre .1)) (c .before .before .before .pre .0) })
+mul-result c =
+    let pre = c .before .before .before .pre in
+    rw (c .before .number-of .ensures, c .power .ensures) (record { fits = fits-word (scaled-below _ _ (pre .1)) (pre .0) })
 
 returns : tie.Need-returns
 returns c = cc

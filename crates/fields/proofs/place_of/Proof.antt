@@ -1,15 +1,16 @@
 -- The returns of `place_of`, each by the law of its tests.
 -- Assumes nothing.
+use mathlib.Core.Path.{_∙_}
 use Rattle.fields.proofs.FieldLaws.{place-below, place-above, place-beyond, place-first, place-next, place-unordered}
 use borrow.Author.Needs.{needs}
 use Rattle.fields.proofs.place_of.Statement.{statement}
 use Rattle.fields.proofs.place_of.Tie as tie
 
 returns : tie.Need-returns
-returns c = place-below _ _ _ (c .if1 .taken)
+returns c = c .empty-place .ensures ∙ place-below _ _ _ (c .before .if1 .taken)
 
 returns-2 : tie.Need-returns-2
-returns-2 c = place-above _ _ _ (c .if2 .taken)
+returns-2 c = c .empty-place2 .ensures ∙ place-above _ _ _ (c .before .if2 .taken)
 
 mul-end : tie.Need-mul-end
 mul-end c = search needs
@@ -18,7 +19,7 @@ element-copy-out-end : tie.Need-element-copy-out-end
 element-copy-out-end c = search needs
 
 returns-3 : tie.Need-returns-3
-returns-3 c = place-beyond _ _ _ (c .if3 .taken)
+returns-3 c = c .empty-place3 .ensures ∙ place-beyond _ _ _ (c .before .if3 .taken)
 
 returns-4 : tie.Need-returns-4
 returns-4 c = place-first _ _ _ (c .if4 .taken) (c .before .if3 .left)
@@ -48,16 +49,19 @@ returns-5 c =
     place-next _ _ _ (counted .before .if1 .left) (counted .if2 .left) (c .before .before .if4 .left) (inside .if3 .left) (c .if5 .taken)
 
 returns-6 : tie.Need-returns-6
-returns-6 c = place-unordered _ _ _ (c .before .before .if4 .left) (c .if5 .left)
+returns-6 c = c .empty-place4 .ensures ∙ place-unordered _ _ _ (c .before .before .before .if4 .left) (c .before .if5 .left)
 
 pub place-of-spec : {M : Type 1} → statement M
 place-of-spec =
     tie.close
     (tie.spec
+    (λ c κs. tt)
     returns
+    (λ c κs. tt)
     returns-2
     mul-end
     element-copy-out-end
+    (λ c κs. tt)
     returns-3
     returns-4
     sub-before
@@ -66,5 +70,6 @@ place-of-spec =
     add-t15
     add-t16
     sub-t17
+    (λ c κs. tt)
     returns-5
     returns-6)

@@ -30,10 +30,14 @@ loop-less : tie.Need-loop-less Inv-loop μ-loop
 loop-less c = search needs
 
 loop-again : tie.Need-loop-again Inv-loop μ-loop
-loop-again c = (search needs, all-go _ _ _ (c .before .before .before .before .loop .inv .1) (c .before .before .before .loop-test .taken) (c .before .belongs .ensures) (c .if1 .taken))
+loop-again c =
+    let turn = c .before .before .before in
+    (search needs, all-go _ _ _ (turn .before .loop .inv .1) (turn .loop-test .taken) (c .before .belongs .ensures) (c .if1 .taken))
 
 returns : tie.Need-returns Inv-loop μ-loop
-returns c = all-stop _ _ _ (c .before .before .before .before .loop .inv .1) (c .before .before .before .loop-test .taken) (c .before .belongs .ensures) (c .if1 .left)
+returns c =
+    let turn = c .before .before .before in
+    all-stop _ _ _ (turn .before .loop .inv .1) (turn .loop-test .taken) (c .before .belongs .ensures) (c .if1 .left)
 
 returns-2 : tie.Need-returns-2 Inv-loop μ-loop
 returns-2 c = all-end _ _ _ (c .before .loop .inv .1) (c .loop-test .left)

@@ -32,10 +32,16 @@ loop-less : tie.Need-loop-less Inv-loop μ-loop
 loop-less c = search needs
 
 loop-again : tie.Need-loop-again Inv-loop μ-loop
-loop-again c = (search needs, search needs, same-go _ _ _ (c .before .before .before .before .loop .inv .1) (c .before .before .before .before .loop .inv .2) (c .before .before .before .loop-test .taken) (c .if2 .taken))
+loop-again c =
+    let turn = c .before .before .before in
+    let inv = turn .before .loop .inv in
+    (search needs, search needs, same-go _ _ _ (inv .1) (inv .2) (turn .loop-test .taken) (c .if2 .taken))
 
 returns-2 : tie.Need-returns-2 Inv-loop μ-loop
-returns-2 c = same-stop _ _ _ (c .before .before .before .before .loop .inv .1) (c .before .before .before .before .loop .inv .2) (c .before .before .before .loop-test .taken) (c .if2 .left)
+returns-2 c =
+    let turn = c .before .before .before in
+    let inv = turn .before .loop .inv in
+    same-stop _ _ _ (inv .1) (inv .2) (turn .loop-test .taken) (c .if2 .left)
 
 returns-3 : tie.Need-returns-3 Inv-loop μ-loop
 returns-3 c = same-end _ _ _ (c .before .loop .inv .1) (c .before .loop .inv .2) (c .loop-test .left)

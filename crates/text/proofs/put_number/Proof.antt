@@ -41,7 +41,8 @@ loop-again c =
     let l = c .before .loop in
     let short : l .i < length (a .w .now) = omega arith in
     let next = low-next (length (a .w .now)) (l .i) (a .x) (l .left) short (l .inv .2) in
-    (search needs, simp length-set (l .inv .1), next .1, store-more (l .w) (lowBytes (length (a .w .now)) (a .x)) (l .i) (l .left % 256) (omega arith) (next .0) (l .inv .3))
+    let stored = store-more (l .w) (lowBytes (length (a .w .now)) (a .x)) (l .i) (l .left % 256) (omega arith) (next .0) (l .inv .3) in
+    (search needs, simp length-set (l .inv .1), next .1, stored)
 
 same-length : tie.Need-same-length Inv-loop μ-loop
 same-length c = omega arith
