@@ -106,6 +106,13 @@ all-get p [] i e h = absurd (not-suc-le-zero h)
 all-get p (x ∷ xs) zero e h = and-left _ _ e
 all-get p (x ∷ xs) (suc i) e h = all-get p xs i (and-right (p x) _ e) (le-of-suc-le-suc h)
 
+-- a list passes where its front and its rest do
+pub all-split : (p : ℕ → Bool) (n : ℕ) (s : List ℕ) → all p s ≡ all p (take n s) && all p (drop n s)
+unfolding all
+all-split p zero s = refl
+all-split p (suc n) [] = refl
+all-split p (suc n) (x ∷ s) = rw (all-split p n s) (and-assoc (p x) _ _)
+
 pub digit-low : (b : ℕ) → isDigit b ≡ true → 48 ≤ b
 digit-low b e = leb-true _ _ (and-left _ _ e)
 

@@ -5,7 +5,7 @@ use Prim.Native.Char.{code}
 use mathlib.Core.Bool.{Bool, true, false, _&&_, _||_, not}
 use lib.Dec.{leb, eqb}
 use Rattle.text.specs.declared.Class.{Class}
-use Rattle.text.specs.declared.Class.the-variants.{Digit, Capital, CapitalOrDigit, WordByte, RecordByte, BodyByte}
+use Rattle.text.specs.declared.Class.the-variants.{Digit, Capital, CapitalOrDigit, WordByte, RecordByte, BodyByte, Space, Zero}
 
 -- 0 to 9
 abbrev pub isDigit : ℕ → Bool
@@ -32,6 +32,12 @@ isRecordByte b = not (eqb b 13) && not (eqb b 10) && not (eqb b (code "'"))
 abbrev pub isBodyByte : ℕ → Bool
 isBodyByte b = not (eqb b (code "'"))
 
+abbrev pub isSpace : ℕ → Bool
+isSpace b = eqb b (code " ")
+
+abbrev pub isZero : ℕ → Bool
+isZero b = eqb b 0
+
 abbrev pub belongsTo : Class → ℕ → Bool
 belongsTo Digit b = isDigit b
 belongsTo Capital b = isCapital b
@@ -39,3 +45,5 @@ belongsTo CapitalOrDigit b = isCapitalOrDigit b
 belongsTo WordByte b = isWordByte b
 belongsTo RecordByte b = isRecordByte b
 belongsTo BodyByte b = isBodyByte b
+belongsTo Space b = isSpace b
+belongsTo Zero b = isZero b

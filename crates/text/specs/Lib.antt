@@ -1,4 +1,5 @@
 pub mod Text
 pub mod Class
 pub mod Bytes
+pub mod Order
 pub mod Number

@@ -2,8 +2,9 @@
 ghost use mathlib.Core.Path.{_≡_};
 ghost use Prim.Native.Nat.{_≤_, _<_, _^_};
 ghost use lib.ListN.{length, take, drop};
-ghost use Rattle.text.specs.Class.{belongsTo, isDigit, isCapital, isWordByte, isRecordByte};
+ghost use Rattle.text.specs.Class.{belongsTo, isDigit, isCapital, isWordByte, isRecordByte, isZero};
 ghost use Rattle.text.specs.Bytes.{all as allOf, same, positionOf, countOf};
+ghost use Rattle.text.specs.Order.{orderOf};
 ghost use Rattle.text.specs.Number.{littleEndian, lowBytes, numberAt, numberPut};
 
 // A class of bytes.
@@ -14,6 +15,15 @@ pub enum Class {
     WordByte,
     RecordByte,
     BodyByte,
+    Space,
+    Zero,
+}
+
+// How two texts stand to each other in the order of their bytes, the first that differs deciding; a beginning comes before the whole.
+pub enum Order {
+    Less,
+    Same,
+    Greater,
 }
 
 fn is_digit(b: u8) -> bool
@@ -51,6 +61,8 @@ pub fn belongs(c: Class, b: u8) -> bool
         Class::WordByte => is_word_byte(b),
         Class::RecordByte => is_record_byte(b),
         Class::BodyByte => !(b == b'\''),
+        Class::Space => b == b' ',
+        Class::Zero => b == 0,
     }
 }
 
@@ -85,6 +97,29 @@ pub fn equal(a: &[u8], b: &[u8]) -> bool
         }
     }
     true
+}
+
+// How a stands to b in the order of their bytes.
+pub fn compare(a: &[u8], b: &[u8]) -> Order
+    ensures { λ r. ⌜ r ≡ orderOf (now (a .entry)) (now (b .entry)) ⌝ }
+{
+    let mut i = 0;
+    while i < a.len() {
+        if b.len() <= i {
+            return Order::Greater;
+        }
+        if a[i] < b[i] {
+            return Order::Less;
+        }
+        if b[i] < a[i] {
+            return Order::Greater;
+        }
+        i += 1;
+    }
+    if a.len() < b.len() {
+        return Order::Less;
+    }
+    Order::Same
 }
 
 // Where b first stands in s; the length of s where it doesn't.
@@ -184,6 +219,21 @@ pub fn read_u64(s: &[u8], at: usize) -> u64
         return 0;
     }
     number_of(&s[at..at + 8])
+}
+
+// Whether the bytes of s are all zero, eight at a time.
+pub fn is_zero(s: &[u8]) -> bool
+    ensures { λ r. ⌜ r ≡ allOf isZero (now (s .entry)) ⌝ }
+{
+    let words = s.len() / 8;
+    let mut k = 0;
+    while k < words {
+        if read_u64(s, k * 8) != 0 {
+            return false;
+        }
+        k += 1;
+    }
+    all(Class::Zero, rest(s, words * 8))
 }
 
 // Writes x into the two bytes of s from a place on, the lowest first; nothing where they are not both there.

@@ -1,0 +1,40 @@
+-- What is looked up in a compartment: the lowest free row, rows by their number, the count of filled rows. A compartment of another length has no row.
+-- Assumes nothing.
+use Prim.Native.Nat.{ℕ}
+use mathlib.Core.Bool.{Bool, _&&_, cond}
+use mathlib.Core.List.{List}
+use lib.Dec.{eqb}
+use lib.ListN.{length}
+use Rattle.frame.specs.Every.{least, howMany}
+use Rattle.text.specs.Bytes.{same}
+use Rattle.ledger.specs.Row.{free, live, state, filled, number}
+use Rattle.ledger.specs.Sound.{Rows, rowsOf, rowCount, compartmentSize}
+
+-- the first row that passes, 64 where none does
+abbrev pub firstRow : List ℕ → (ℕ → Bool) → ℕ
+firstRow c p = cond (eqb (length c) compartmentSize) (least rowCount p) rowCount
+
+abbrev pub isFree : Rows → ℕ → Bool
+isFree ρ k = eqb (state (ρ k)) free
+
+abbrev pub hasNumber : Rows → List ℕ → ℕ → Bool
+hasNumber ρ n k = filled (ρ k) && same (number (ρ k)) n
+
+abbrev pub isLive : Rows → List ℕ → ℕ → Bool
+isLive ρ n k = eqb (state (ρ k)) live && same (number (ρ k)) n
+
+-- the lowest free row
+unfoldable pub freeRow : List ℕ → ℕ
+freeRow c = firstRow c (isFree (rowsOf c))
+
+-- the row with the number n
+unfoldable pub rowByNumber : List ℕ → List ℕ → ℕ
+rowByNumber c n = firstRow c (hasNumber (rowsOf c) n)
+
+-- the live row with the number n
+unfoldable pub liveRow : List ℕ → List ℕ → ℕ
+liveRow c n = firstRow c (isLive (rowsOf c) n)
+
+-- how many rows are filled
+unfoldable pub filledRows : List ℕ → ℕ
+filledRows c = cond (eqb (length c) compartmentSize) (howMany rowCount (λ k. filled (rowsOf c k))) 0

@@ -1,0 +1,2 @@
+pub mod Reporters
+pub mod Currencies
