@@ -1,1 +1,136 @@
-// specs only
+// A booking into a lent compartment: a new live row, and for a cancellation the link with the row that it cancels.
+ghost use mathlib.Core.Path.{_≡_};
+ghost use Prim.Native.Nat.{_≤_, _<_};
+ghost use lib.ListN.{length, getD};
+ghost use Rattle.ledger.specs.Row.{rowSize, numberRoom};
+ghost use Rattle.ledger.specs.Sound.{rowCount, compartmentSize};
+ghost use Rattle.booking.specs.Booking.{padded, newRow, entered, relinked, relinkedAt, cancelledBy, canBook, booked};
+
+// Rows of a compartment, bytes of a row, bytes of a compartment.
+const ROWS: usize = 64;
+
+const ROW: usize = 32;
+
+const COMPARTMENT: usize = 2048;
+
+// Where the parts of a row stand.
+const STATE: usize = 0;
+
+const LENGTH: usize = 1;
+
+const NUMBER: usize = 2;
+
+const QUANTITY: usize = 18;
+
+const PARTNER: usize = 26;
+
+const SIDE: usize = 28;
+
+const ZEROS: usize = 29;
+
+// Bytes that a number may take.
+const NUMBER_ROOM: usize = 16;
+
+// What stands for no partner.
+const NO_PARTNER: u16 = 65535;
+
+// States of a row.
+const LIVE: u8 = 1;
+
+const CANCELLED: u8 = 2;
+
+const CANCELLATION: u8 = 3;
+
+// Byte i of the sixteen that hold a number: of the number, or a zero after it.
+fn padded_byte(n: &[u8], i: usize) -> u8
+    requires { ⌜ i < numberRoom ⌝ }
+    ensures { λ r. ⌜ r ≡ getD (padded (now (n .entry))) i 0 ⌝ }
+{
+    if i < n.len() { n[i] } else { 0 }
+}
+
+// Writes a number and the zeros after it into its sixteen bytes.
+fn put_number(w: &mut [u8], n: &[u8])
+    requires { ⌜ (length (now w) ≡ numberRoom) × (length (now n) ≤ numberRoom) ⌝ }
+    ensures { λ r. ⌜ now (w .exit) ≡ padded (now (n .entry)) ⌝ }
+{
+    let mut i = 0;
+    while i < NUMBER_ROOM {
+        w[i] = padded_byte(n, i);
+        i += 1;
+    }
+}
+
+// Makes a row live with the number n, the quantity q and the side s, and with no partner.
+fn fill_row(w: &mut [u8], n: &[u8], q: u64, s: u8)
+    requires { ⌜ (length (now w) ≡ rowSize) × (length (now n) ≤ numberRoom) ⌝ }
+    ensures { λ r. ⌜ now (w .exit) ≡ newRow (now (n .entry)) q s ⌝ }
+{
+    w[STATE] = LIVE;
+    w[LENGTH] = n.len() as u8;
+    w[SIDE] = s;
+    w[ZEROS] = 0;
+    w[ZEROS + 1] = 0;
+    w[ZEROS + 2] = 0;
+    put_number(&mut w[NUMBER..QUANTITY], n);
+    text::write_u64(w, QUANTITY, q);
+    text::write_u16(w, PARTNER, NO_PARTNER);
+}
+
+// Gives a row another state and the partner p.
+fn relink(w: &mut [u8], state: u8, p: usize)
+    requires { ⌜ (length (now w) ≡ rowSize) × (p < rowCount) ⌝ }
+    ensures { λ r. ⌜ now (w .exit) ≡ relinked state p (now (w .entry)) ⌝ }
+{
+    w[STATE] = state;
+    text::write_u16(w, PARTNER, p as u16);
+}
+
+// Enters a new live row in row f.
+fn enter(c: &mut [u8], f: usize, n: &[u8], q: u64, s: u8)
+    requires { ⌜ (length (now c) ≡ compartmentSize) × (f < rowCount) × (length (now n) ≤ numberRoom) ⌝ }
+    ensures { λ r. ⌜ now (c .exit) ≡ entered f (now (n .entry)) q s (now (c .entry)) ⌝ }
+{
+    let a = f * ROW;
+    let e = a + ROW;
+    fill_row(&mut c[a..e], n, q, s);
+}
+
+// Gives row k another state and the partner p.
+fn relink_row(c: &mut [u8], k: usize, state: u8, p: usize)
+    requires { ⌜ (length (now c) ≡ compartmentSize) × (k < rowCount) × (p < rowCount) ⌝ }
+    ensures { λ r. ⌜ now (c .exit) ≡ relinkedAt k state p (now (c .entry)) ⌝ }
+{
+    let a = k * ROW;
+    let e = a + ROW;
+    relink(&mut c[a..e], state, p);
+}
+
+// Makes row f the cancellation of row p, and row p cancelled; they point at each other.
+fn cancel(c: &mut [u8], f: usize, p: usize)
+    requires { ⌜ (length (now c) ≡ compartmentSize) × (f < rowCount) × (p < rowCount) ⌝ }
+    ensures { λ r. ⌜ now (c .exit) ≡ cancelledBy f p (now (c .entry)) ⌝ }
+{
+    relink_row(c, f, CANCELLATION, p);
+    relink_row(c, p, CANCELLED, f);
+}
+
+// Whether a booking can be made: the compartment has its length, f is one of its rows, and the number has room.
+fn can_book(c: &[u8], f: usize, n: &[u8]) -> bool
+    ensures { λ r. ⌜ r ≡ canBook f (now (n .entry)) (now (c .entry)) ⌝ }
+{
+    (c.len() == COMPARTMENT) & ((f < ROWS) & (n.len() <= NUMBER_ROOM))
+}
+
+// Books number n, quantity q and side s in row f, and cancels row p where p is a row; nothing where no booking can be made.
+pub fn book(c: &mut [u8], f: usize, n: &[u8], q: u64, s: u8, p: usize)
+    ensures { λ r. ⌜ now (c .exit) ≡ booked f (now (n .entry)) q s p (now (c .entry)) ⌝ }
+{
+    if !can_book(c, f, n) {
+        return;
+    }
+    enter(c, f, n, q, s);
+    if p < ROWS {
+        cancel(c, f, p);
+    }
+}

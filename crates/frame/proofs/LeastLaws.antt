@@ -49,3 +49,13 @@ pub least-none : (n : ℕ) (p : ℕ → Bool) → ((j : ℕ) → j < n → p j �
 unfolding least
 least-none zero p f = refl
 least-none (suc n) p f = rw (f zero (omega arith)) (ap suc (least-none n (λ j. p (suc j)) (λ j jh. f (suc j) (omega arith))))
+
+-- a search that has passed all numbers below the bound
+pub least-passed : (n : ℕ) (p : ℕ → Bool) (k : ℕ) → k ≤ n → n ≤ k → ((j : ℕ) → j < k → p j ≡ false) → k ≡ least n p
+least-passed n p k h g f = let e : k ≡ n = omega arith in e ∙ sym (least-none n p (λ j l. f j (omega arith)))
+
+-- two tests that agree below a bound have the same least number there
+pub least-same : (n : ℕ) (p q : ℕ → Bool) → ((k : ℕ) → k < n → p k ≡ q k) → least n p ≡ least n q
+unfolding least
+least-same zero p q f = refl
+least-same (suc n) p q f = rw (f zero (omega arith), least-same n (λ k. p (suc k)) (λ k. q (suc k)) (λ k h. f (suc k) (omega arith)))

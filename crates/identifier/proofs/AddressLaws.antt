@@ -12,22 +12,8 @@ use lib.Seq.{take-at, drop-at}
 use Rattle.frame.proofs.BoolLaws.{and-true}
 use Rattle.text.specs.Bytes.{same}
 use Rattle.text.specs.Text.{bytes}
-use Rattle.text.proofs.ByteLaws.{same-refl, same-split, same-lengths}
+use Rattle.text.proofs.ByteLaws.{same-refl, same-sym, same-split, same-lengths}
 use Rattle.identifier.specs.Identifier.{completed, sameAddress}
-
-eqb-sym : (x y : ℕ) → eqb x y ≡ eqb y x
-eqb-sym x y = of (eqb x y) refl
-  where
-    of : (b : Bool) → eqb x y ≡ b → eqb x y ≡ eqb y x
-    of true e = e ∙ sym (eq-eqb y x (sym (eqb-true x y e)))
-    of false e = e ∙ sym (ne-eqb y x (λ q. eqb-false x y e (sym q)))
-
-same-sym : (s t : List ℕ) → same s t ≡ same t s
-unfolding same
-same-sym [] [] = refl
-same-sym [] (y ∷ t) = refl
-same-sym (x ∷ s) [] = refl
-same-sym (x ∷ s) (y ∷ t) = rw (eqb-sym x y, same-sym s t) refl
 
 -- lists of one length with the same list added to both
 same-added : (a s t : List ℕ) → length s ≡ length t → same s t ≡ same (s ++ a) (t ++ a)

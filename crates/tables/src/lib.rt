@@ -1,1 +1,289 @@
-// specs only
+// The lent tables: who reports, and which currencies are money.
+ghost use Prim.Native.Nat.{_-_, _<_};
+ghost use mathlib.Core.Bool.{_||_};
+ghost use mathlib.Core.Path.{_≡_};
+ghost use lib.Dec.{eqb};
+ghost use Rattle.frame.specs.Every.{every};
+ghost use Rattle.text.specs.Order.{below};
+ghost use Rattle.tables.specs.Reporters.{reporterCount, reporterAt, codeOf, addressOf, mailboxBytes, mailboxOf, mailboxForm, reporterForm};
+ghost use Rattle.tables.specs.Reporters.{reportersDiffer, reporterOk, reportersOk, hasCode, hasAddress, hasMailbox, rowByCode, rowByAddress};
+ghost use Rattle.tables.specs.Currencies.{currencyCount, currencyAt, isSpecial, currencyOk, currenciesOk, foundMoney};
+use text::Class;
+use text::Order;
+
+// Bytes of a row of the reporters table, and the most rows that it may have.
+const REPORTER_SIZE: usize = 32;
+
+const REPORTER_LIMIT: usize = 16;
+
+// Bytes of a currency code, and the most codes that the list may have.
+const CURRENCY_SIZE: usize = 3;
+
+const CURRENCY_LIMIT: usize = 512;
+
+// How many whole rows a reporters table has.
+pub fn reporter_count(t: &[u8]) -> usize
+    ensures { λ r. ⌜ r ≡ reporterCount (now (t .entry)) ⌝ }
+{
+    t.len() / REPORTER_SIZE
+}
+
+// Row k of a reporters table.
+fn row(t: &[u8], k: usize) -> &[u8]
+    requires { ⌜ k < reporterCount (now t) ⌝ }
+    ensures { λ r. ⌜ now r ≡ reporterAt (now (t .entry)) k ⌝ }
+{
+    text::front(text::rest(t, k * REPORTER_SIZE), REPORTER_SIZE)
+}
+
+// The bank code of a row.
+fn code_of(w: &[u8]) -> &[u8]
+    ensures { λ r. ⌜ now r ≡ codeOf (now (w .entry)) ⌝ }
+{
+    text::front(w, 5)
+}
+
+// The SWIFT address of a row.
+fn address_of(w: &[u8]) -> &[u8]
+    ensures { λ r. ⌜ now r ≡ addressOf (now (w .entry)) ⌝ }
+{
+    text::front(text::rest(w, 5), 11)
+}
+
+// The eight bytes of a row that hold its mailbox, with the spaces behind it.
+fn mailbox_bytes(w: &[u8]) -> &[u8]
+    ensures { λ r. ⌜ now r ≡ mailboxBytes (now (w .entry)) ⌝ }
+{
+    text::front(text::rest(w, 16), 8)
+}
+
+// The mailbox of a row, without the spaces behind it.
+fn mailbox_of(w: &[u8]) -> &[u8]
+    ensures { λ r. ⌜ now r ≡ mailboxOf (now (w .entry)) ⌝ }
+{
+    let m = mailbox_bytes(w);
+    text::front(m, text::position(m, b' '))
+}
+
+// Whether the mailbox of a row is a name with nothing but spaces behind it.
+fn is_mailbox(w: &[u8]) -> bool
+    ensures { λ r. ⌜ r ≡ mailboxForm (now (w .entry)) ⌝ }
+{
+    let name = mailbox_of(w);
+    identifier::is_name(name, 8) & text::all(Class::Space, text::rest(mailbox_bytes(w), name.len()))
+}
+
+// Whether a row has the form of a reporter's.
+fn is_reporter(w: &[u8]) -> bool
+    ensures { λ r. ⌜ r ≡ reporterForm (now (w .entry)) ⌝ }
+{
+    identifier::is_bank_code(code_of(w))
+        & identifier::is_swift(address_of(w))
+        & is_mailbox(w)
+        & text::is_zero(text::rest(w, 24))
+}
+
+// Whether two rows differ in bank code and in address.
+fn rows_differ(t: &[u8], k: usize, j: usize) -> bool
+    requires { ⌜ (k < reporterCount (now t)) × (j < reporterCount (now t)) ⌝ }
+    ensures { λ r. ⌜ r ≡ reportersDiffer (now (t .entry)) k j ⌝ }
+{
+    let v = row(t, k);
+    let w = row(t, j);
+    !text::equal(code_of(v), code_of(w)) & !text::equal(address_of(v), address_of(w))
+}
+
+// Whether row k differs from each row before it.
+fn is_new(t: &[u8], k: usize) -> bool
+    requires { ⌜ k < reporterCount (now t) ⌝ }
+    ensures { λ r. ⌜ r ≡ every k (reportersDiffer (now (t .entry)) k) ⌝ }
+{
+    let mut j = 0;
+    while j < k {
+        if !rows_differ(t, k, j) {
+            return false;
+        }
+        j += 1;
+    }
+    true
+}
+
+// Whether row k is in order.
+fn reporter_ok(t: &[u8], k: usize) -> bool
+    requires { ⌜ k < reporterCount (now t) ⌝ }
+    ensures { λ r. ⌜ r ≡ reporterOk (now (t .entry)) k ⌝ }
+{
+    is_reporter(row(t, k)) & is_new(t, k)
+}
+
+// Whether the reporters table is in order; else the call is refused by 2.
+pub fn reporters_ok(t: &[u8]) -> bool
+    ensures { λ r. ⌜ r ≡ reportersOk (now (t .entry)) ⌝ }
+{
+    if REPORTER_LIMIT * REPORTER_SIZE < t.len() {
+        return false;
+    }
+    if t.len() % REPORTER_SIZE != 0 {
+        return false;
+    }
+    let count = reporter_count(t);
+    let mut k = 0;
+    while k < count {
+        if !reporter_ok(t, k) {
+            return false;
+        }
+        k += 1;
+    }
+    true
+}
+
+// Whether row k has the bank code f.
+pub fn has_code<'a>(t: &'a [u8], f: &'a [u8], k: usize) -> bool
+    ensures { λ r. ⌜ r ≡ hasCode (now (t .entry)) (now (f .entry)) k ⌝ }
+{
+    k < reporter_count(t) && text::equal(code_of(row(t, k)), f)
+}
+
+// Whether row k has the address f, which may lack the XXX at its end.
+pub fn has_address<'a>(t: &'a [u8], f: &'a [u8], k: usize) -> bool
+    ensures { λ r. ⌜ r ≡ hasAddress (now (t .entry)) (now (f .entry)) k ⌝ }
+{
+    k < reporter_count(t) && identifier::same_address(address_of(row(t, k)), f)
+}
+
+// Whether row k has the mailbox f.
+pub fn has_mailbox<'a>(t: &'a [u8], f: &'a [u8], k: usize) -> bool
+    ensures { λ r. ⌜ r ≡ hasMailbox (now (t .entry)) (now (f .entry)) k ⌝ }
+{
+    k < reporter_count(t) && text::equal(mailbox_of(row(t, k)), f)
+}
+
+// The first row with the bank code f; the count of rows where none has it.
+pub fn row_by_code<'a>(t: &'a [u8], f: &'a [u8]) -> usize
+    ensures { λ r. ⌜ r ≡ rowByCode (now (t .entry)) (now (f .entry)) ⌝ }
+{
+    let count = reporter_count(t);
+    let mut k = 0;
+    while k < count {
+        if has_code(t, f, k) {
+            return k;
+        }
+        k += 1;
+    }
+    k
+}
+
+// The first row with the address f; the count of rows where none has it.
+pub fn row_by_address<'a>(t: &'a [u8], f: &'a [u8]) -> usize
+    ensures { λ r. ⌜ r ≡ rowByAddress (now (t .entry)) (now (f .entry)) ⌝ }
+{
+    let count = reporter_count(t);
+    let mut k = 0;
+    while k < count {
+        if has_address(t, f, k) {
+            return k;
+        }
+        k += 1;
+    }
+    k
+}
+
+// How many whole codes a currency list has.
+fn currency_count(t: &[u8]) -> usize
+    ensures { λ r. ⌜ r ≡ currencyCount (now (t .entry)) ⌝ }
+{
+    t.len() / CURRENCY_SIZE
+}
+
+// Code k of a currency list.
+fn currency(t: &[u8], k: usize) -> &[u8]
+    requires { ⌜ k < currencyCount (now t) ⌝ }
+    ensures { λ r. ⌜ now r ≡ currencyAt (now (t .entry)) k ⌝ }
+{
+    text::front(text::rest(t, k * CURRENCY_SIZE), CURRENCY_SIZE)
+}
+
+// Whether s is a special code, which is no currency.
+pub fn is_special(s: &[u8]) -> bool
+    ensures { λ r. ⌜ r ≡ isSpecial (now (s .entry)) ⌝ }
+{
+    text::equal(s, b"XXX")
+        | text::equal(s, b"XXK")
+        | text::equal(s, b"XXO")
+        | text::equal(s, b"XXZ")
+}
+
+// Whether s comes before c in the order of their bytes.
+fn is_below<'a>(s: &'a [u8], c: &'a [u8]) -> bool
+    ensures { λ r. ⌜ r ≡ below (now (s .entry)) (now (c .entry)) ⌝ }
+{
+    match text::compare(s, c) {
+        Order::Less => true,
+        Order::Same => false,
+        Order::Greater => false,
+    }
+}
+
+// Whether code k comes after the code before it, if there is one.
+fn is_after(t: &[u8], k: usize) -> bool
+    requires { ⌜ k < currencyCount (now t) ⌝ }
+    ensures { λ r. ⌜ r ≡ eqb k 0 || below (currencyAt (now (t .entry)) (k - 1)) (currencyAt (now (t .entry)) k) ⌝ }
+{
+    if k == 0 {
+        return true;
+    }
+    is_below(currency(t, k - 1), currency(t, k))
+}
+
+// Whether code k is in order.
+fn currency_ok(t: &[u8], k: usize) -> bool
+    requires { ⌜ k < currencyCount (now t) ⌝ }
+    ensures { λ r. ⌜ r ≡ currencyOk (now (t .entry)) k ⌝ }
+{
+    let s = currency(t, k);
+    text::all(Class::Capital, s) & !is_special(s) & is_after(t, k)
+}
+
+// Whether the currency list is in order; else the call is refused by 3.
+pub fn currencies_ok(t: &[u8]) -> bool
+    ensures { λ r. ⌜ r ≡ currenciesOk (now (t .entry)) ⌝ }
+{
+    if CURRENCY_LIMIT * CURRENCY_SIZE < t.len() {
+        return false;
+    }
+    if t.len() % CURRENCY_SIZE != 0 {
+        return false;
+    }
+    let count = currency_count(t);
+    let mut k = 0;
+    while k < count {
+        if !currency_ok(t, k) {
+            return false;
+        }
+        k += 1;
+    }
+    true
+}
+
+// Whether s is money: a search of the ascending list, which halves what is left at each turn.
+pub fn is_money<'a>(t: &'a [u8], s: &'a [u8]) -> bool
+    ensures { λ r. ⌜ r ≡ foundMoney (now (t .entry)) (now (s .entry)) ⌝ }
+{
+    let mut low = 0;
+    let mut high = currency_count(t);
+    while low < high {
+        let middle = low + (high - low) / 2;
+        match text::compare(currency(t, middle), s) {
+            Order::Same => {
+                return true;
+            }
+            Order::Less => {
+                low = middle + 1;
+            }
+            Order::Greater => {
+                high = middle;
+            }
+        }
+    }
+    false
+}

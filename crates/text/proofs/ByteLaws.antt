@@ -8,7 +8,7 @@ use mathlib.Core.Path.{_≡_, refl, ap, sym, _∙_, subst}
 use native.Mathlib.Nat.{not-suc-le-zero, le-of-suc-le-suc, le-of-eq}
 use native.Mathlib.Numerals.{add-one}
 use native.Mathlib.Omega.{arith}
-use borrow.Author.Tests.{eq-eqb, ne-eqb, eqb-true, leb-true}
+use borrow.Author.Tests.{eq-eqb, ne-eqb, eqb-true, eqb-false, leb-true}
 use lib.Dec.{eqb, leb}
 use lib.ListN.{length, getD, take, drop, length-drop, drop-of-length-le}
 use lib.Seq.{drop-cons, take-all}
@@ -131,6 +131,21 @@ same-true [] [] e = refl
 same-true [] (y ∷ t) e = absurd (false≢true e)
 same-true (x ∷ s) [] e = absurd (false≢true e)
 same-true (x ∷ s) (y ∷ t) e = rw (eqb-true x y (and-left (eqb x y) _ e), same-true s t (and-right (eqb x y) _ e))
+
+-- the comparison may be turned round
+eqb-sym : (x y : ℕ) → eqb x y ≡ eqb y x
+eqb-sym x y = of (eqb x y) refl
+  where
+    of : (b : Bool) → eqb x y ≡ b → eqb x y ≡ eqb y x
+    of true e = e ∙ sym (eq-eqb y x (sym (eqb-true x y e)))
+    of false e = e ∙ sym (ne-eqb y x (λ q. eqb-false x y e (sym q)))
+
+pub same-sym : (s t : List ℕ) → same s t ≡ same t s
+unfolding same
+same-sym [] [] = refl
+same-sym [] (y ∷ t) = refl
+same-sym (x ∷ s) [] = refl
+same-sym (x ∷ s) (y ∷ t) = rw (eqb-sym x y, same-sym s t) refl
 
 -- a list made of two, compared with one list: front with front, rest with rest
 pub same-split : (a b s : List ℕ) → length a ≤ length s → same a (take (length a) s) && same b (drop (length a) s) ≡ same (a ++ b) s
