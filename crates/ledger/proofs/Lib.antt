@@ -1,2 +1,5 @@
+pub mod FormLaws
+pub mod CheckLaws
+pub mod LookupLaws
 pub mod RowLaws
 pub mod SoundLaws

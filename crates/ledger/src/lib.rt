@@ -1,1 +1,338 @@
-// specs only
+// The ledger: whether it is sound, and what is looked up in a compartment.
+ghost use Prim.Native.Nat.{_-_, _<_};
+ghost use mathlib.Core.Bool.{true, _&&_};
+ghost use mathlib.Core.Path.{_≡_};
+ghost use lib.Dec.{eqb};
+ghost use lib.ListN.{length, getD};
+ghost use Rattle.frame.specs.Every.{every};
+ghost use Rattle.text.specs.Bytes.{same};
+ghost use Rattle.text.specs.Number.{numberAt};
+ghost use Rattle.ledger.specs.Row.{rowSize, live, state, filled, number, numberPadding, partner, isSide, rowForm};
+ghost use Rattle.ledger.specs.Sound.{rowCount, compartmentSize, rowsOf, pointsBack, linked, precedes, soundRow, soundCompartment};
+ghost use Rattle.ledger.specs.Sound.{soundLedger};
+ghost use Rattle.ledger.specs.Lookup.{freeRow, rowByNumber, liveRow, filledRows};
+use text::Class;
+
+const ROW_SIZE: usize = 32;
+
+const ROW_COUNT: usize = 64;
+
+const COMPARTMENT_SIZE: usize = ROW_COUNT * ROW_SIZE;
+
+const BANK_COUNT: usize = 16;
+
+const LEDGER_SIZE: usize = BANK_COUNT * COMPARTMENT_SIZE;
+
+// The places of a row.
+const STATE_PLACE: usize = 0;
+
+const LENGTH_PLACE: usize = 1;
+
+const NUMBER_PLACE: usize = 2;
+
+const SECOND_WORD_PLACE: usize = 10;
+
+const QUANTITY_PLACE: usize = 18;
+
+const PARTNER_PLACE: usize = 26;
+
+const SIDE_PLACE: usize = 28;
+
+const ZEROS_PLACE: usize = 29;
+
+const FREE: u8 = 0;
+
+const LIVE: u8 = 1;
+
+const CANCELLED: u8 = 2;
+
+const CANCELLATION: u8 = 3;
+
+const NUMBER_ROOM: usize = 16;
+
+const LARGEST_QUANTITY: u64 = 9_999_999_999_999_999_999;
+
+const NO_PARTNER: usize = 65535;
+
+// A byte as a size.
+fn wide(b: u8) -> usize
+    ensures { λ r. ⌜ r ≡ b ⌝ }
+{
+    b as usize
+}
+
+// Row k of a compartment.
+fn row(c: &[u8], k: usize) -> &[u8]
+    requires { ⌜ (length (now c) ≡ compartmentSize) × (k < rowCount) ⌝ }
+    ensures { λ r. ⌜ (now r ≡ rowsOf (now (c .entry)) k) × (length (now r) ≡ rowSize) ⌝ }
+{
+    let a = k * ROW_SIZE;
+    let e = a + ROW_SIZE;
+    &c[a..e]
+}
+
+// The number of a row.
+fn number_of(w: &[u8]) -> &[u8]
+    requires { ⌜ length (now w) ≡ rowSize ⌝ }
+    ensures { λ r. ⌜ now r ≡ number (now (w .entry)) ⌝ }
+{
+    text::front(text::rest(w, NUMBER_PLACE), wide(w[LENGTH_PLACE]))
+}
+
+// What is left of the room for the number of a row.
+fn padding_of(w: &[u8]) -> &[u8]
+    requires { ⌜ length (now w) ≡ rowSize ⌝ }
+    ensures { λ r. ⌜ now r ≡ numberPadding (now (w .entry)) ⌝ }
+{
+    text::rest(
+        text::front(text::rest(w, NUMBER_PLACE), NUMBER_ROOM),
+        wide(w[LENGTH_PLACE]),
+    )
+}
+
+// The partner of a row.
+fn partner_of(w: &[u8]) -> usize
+    ensures { λ r. ⌜ r ≡ partner (now (w .entry)) ⌝ }
+{
+    text::read_u16(w, PARTNER_PLACE) as usize
+}
+
+// Whether b is the letter of a side: B or S.
+fn is_side(b: u8) -> bool
+    ensures { λ r. ⌜ r ≡ isSide b ⌝ }
+{
+    (b == b'B') | (b == b'S')
+}
+
+// Whether a filled row has the form, but for what its partner has to be.
+fn is_row_form(w: &[u8]) -> bool
+    requires { ⌜ length (now w) ≡ rowSize ⌝ }
+    ensures { λ r. ⌜ r ≡ rowForm (now (w .entry)) ⌝ }
+{
+    let s = w[STATE_PLACE];
+    (LIVE <= s)
+        & (s <= CANCELLATION)
+        & identifier::is_name(number_of(w), NUMBER_ROOM)
+        & text::all(Class::Zero, padding_of(w))
+        & (text::read_u64(w, QUANTITY_PLACE) <= LARGEST_QUANTITY)
+        & is_side(w[SIDE_PLACE])
+        & text::all(Class::Zero, text::rest(w, ZEROS_PLACE))
+}
+
+// Whether row q has the state s and points to row k.
+fn points_back(c: &[u8], q: usize, s: u8, k: usize) -> bool
+    requires { ⌜ (length (now c) ≡ compartmentSize) × (q < rowCount) ⌝ }
+    ensures { λ r. ⌜ r ≡ pointsBack (rowsOf (now (c .entry))) q s k ⌝ }
+{
+    let w = row(c, q);
+    (w[STATE_PLACE] == s) & (partner_of(w) == k)
+}
+
+// Whether row k is linked as its state asks.
+fn is_linked(c: &[u8], k: usize) -> bool
+    requires { ⌜ (length (now c) ≡ compartmentSize) × (k < rowCount) ⌝ }
+    ensures { λ r. ⌜ r ≡ linked (rowsOf (now (c .entry))) k ⌝ }
+{
+    let w = row(c, k);
+    let p = partner_of(w);
+    if w[STATE_PLACE] == LIVE {
+        return p == NO_PARTNER;
+    }
+    if w[STATE_PLACE] == CANCELLATION {
+        return p < k && points_back(c, p, CANCELLED, k);
+    }
+    ((k < p) & (p < ROW_COUNT)) && points_back(c, p, CANCELLATION, k)
+}
+
+// Whether the number of a row is written in these two words; the second is read first, since numbers begin alike.
+fn has_words(w: &[u8], first: u64, second: u64) -> bool
+    ensures { λ r. ⌜ r ≡ (eqb (numberAt 8 10 (now (w .entry))) second && eqb (numberAt 8 2 (now (w .entry))) first) ⌝ }
+{
+    text::read_u64(w, SECOND_WORD_PLACE) == second && text::read_u64(w, NUMBER_PLACE) == first
+}
+
+// Whether the rows before row k, which are sound, have other numbers.
+fn is_new_number(c: &[u8], k: usize) -> bool
+    requires { ⌜ (length (now c) ≡ compartmentSize) × (k < rowCount) ⌝ }
+    requires { ⌜ (every k (soundRow (rowsOf (now c))) ≡ true) × (every k (λ j. filled (rowsOf (now c) j)) ≡ true) ⌝ }
+    requires { ⌜ rowForm (rowsOf (now c) k) ≡ true ⌝ }
+    ensures { λ r. ⌜ r ≡ every k (precedes (rowsOf (now (c .entry))) (number (rowsOf (now (c .entry)) k))) ⌝ }
+{
+    let w = row(c, k);
+    let first = text::read_u64(w, NUMBER_PLACE);
+    let second = text::read_u64(w, SECOND_WORD_PLACE);
+    let mut j = 0;
+    while j < k {
+        if has_words(row(c, j), first, second) {
+            return false;
+        }
+        j += 1;
+    }
+    true
+}
+
+// Whether row k, which is filled, is sound after the sound and filled rows before it.
+fn is_sound_filled(c: &[u8], k: usize) -> bool
+    requires { ⌜ (length (now c) ≡ compartmentSize) × (k < rowCount) ⌝ }
+    requires { ⌜ (every k (soundRow (rowsOf (now c))) ≡ true) × (every k (λ j. filled (rowsOf (now c) j)) ≡ true) ⌝ }
+    requires { ⌜ filled (rowsOf (now c) k) ≡ true ⌝ }
+    ensures { λ r. ⌜ r ≡ soundRow (rowsOf (now (c .entry))) k ⌝ }
+{
+    is_row_form(row(c, k)) && (is_new_number(c, k) && is_linked(c, k))
+}
+
+// Whether a compartment is sound. From the first free row on it is all zero.
+pub fn sound_compartment(c: &[u8]) -> bool
+    ensures { λ r. ⌜ r ≡ soundCompartment (now (c .entry)) ⌝ }
+{
+    if c.len() != COMPARTMENT_SIZE {
+        return false;
+    }
+    let mut k = 0;
+    while k < ROW_COUNT {
+        let w = row(c, k);
+        if w[STATE_PLACE] == FREE {
+            return text::is_zero(text::rest(c, k * ROW_SIZE));
+        }
+        if is_sound_filled(c, k) {
+            k += 1;
+        } else {
+            return false;
+        }
+    }
+    true
+}
+
+// Whether the ledger is sound.
+pub fn sound_ledger(l: &[u8]) -> bool
+    ensures { λ r. ⌜ r ≡ soundLedger (now (l .entry)) ⌝ }
+{
+    if l.len() != LEDGER_SIZE {
+        return false;
+    }
+    let mut r = 0;
+    while r < BANK_COUNT {
+        let a = r * COMPARTMENT_SIZE;
+        let e = a + COMPARTMENT_SIZE;
+        if sound_compartment(&l[a..e]) {
+            r += 1;
+        } else {
+            return false;
+        }
+    }
+    true
+}
+
+// The lowest free row of a compartment, 64 where none is free.
+pub fn free_row(c: &[u8]) -> usize
+    ensures { λ r. ⌜ r ≡ freeRow (now (c .entry)) ⌝ }
+{
+    if c.len() != COMPARTMENT_SIZE {
+        return ROW_COUNT;
+    }
+    let mut k = 0;
+    while k < ROW_COUNT {
+        let w = row(c, k);
+        if w[STATE_PLACE] == FREE {
+            return k;
+        }
+        k += 1;
+    }
+    ROW_COUNT
+}
+
+// The last byte of s, 0 where there is none.
+fn last_byte(s: &[u8]) -> u8
+    ensures { λ r. ⌜ r ≡ getD (now (s .entry)) (length (now (s .entry)) - 1) 0 ⌝ }
+{
+    if s.len() == 0 {
+        return 0;
+    }
+    s[s.len() - 1]
+}
+
+// Whether the number of a row is n; length and last byte are compared first, since numbers begin alike.
+fn is_number<'a>(w: &'a [u8], n: &'a [u8]) -> bool
+    requires { ⌜ length (now w) ≡ rowSize ⌝ }
+    ensures { λ r. ⌜ r ≡ same (number (now (w .entry))) (now (n .entry)) ⌝ }
+{
+    let own = number_of(w);
+    if own.len() != n.len() {
+        return false;
+    }
+    if last_byte(own) != last_byte(n) {
+        return false;
+    }
+    text::equal(own, n)
+}
+
+// Whether a row is filled and its number is n.
+fn is_filled_with<'a>(w: &'a [u8], n: &'a [u8]) -> bool
+    requires { ⌜ length (now w) ≡ rowSize ⌝ }
+    ensures { λ r. ⌜ r ≡ (filled (now (w .entry)) && same (number (now (w .entry))) (now (n .entry))) ⌝ }
+{
+    w[STATE_PLACE] != FREE && is_number(w, n)
+}
+
+// The row of a compartment with the number n, 64 where none has it.
+pub fn row_by_number<'a>(c: &'a [u8], n: &'a [u8]) -> usize
+    ensures { λ r. ⌜ r ≡ rowByNumber (now (c .entry)) (now (n .entry)) ⌝ }
+{
+    if c.len() != COMPARTMENT_SIZE {
+        return ROW_COUNT;
+    }
+    let mut k = 0;
+    while k < ROW_COUNT {
+        if is_filled_with(row(c, k), n) {
+            return k;
+        }
+        k += 1;
+    }
+    ROW_COUNT
+}
+
+// Whether a row is live and its number is n.
+fn is_live_with<'a>(w: &'a [u8], n: &'a [u8]) -> bool
+    requires { ⌜ length (now w) ≡ rowSize ⌝ }
+    ensures { λ r. ⌜ r ≡ (eqb (state (now (w .entry))) live && same (number (now (w .entry))) (now (n .entry))) ⌝ }
+{
+    w[STATE_PLACE] == LIVE && is_number(w, n)
+}
+
+// The live row of a compartment with the number n, 64 where none has it.
+pub fn live_row<'a>(c: &'a [u8], n: &'a [u8]) -> usize
+    ensures { λ r. ⌜ r ≡ liveRow (now (c .entry)) (now (n .entry)) ⌝ }
+{
+    if c.len() != COMPARTMENT_SIZE {
+        return ROW_COUNT;
+    }
+    let mut k = 0;
+    while k < ROW_COUNT {
+        if is_live_with(row(c, k), n) {
+            return k;
+        }
+        k += 1;
+    }
+    ROW_COUNT
+}
+
+// How many rows of a compartment are filled; none where it has another length.
+pub fn filled_rows(c: &[u8]) -> usize
+    ensures { λ r. ⌜ r ≡ filledRows (now (c .entry)) ⌝ }
+{
+    if c.len() != COMPARTMENT_SIZE {
+        return 0;
+    }
+    let mut n: usize = 0;
+    let mut k = 0;
+    while k < ROW_COUNT {
+        let w = row(c, k);
+        if w[STATE_PLACE] != FREE {
+            n += 1;
+            k += 1;
+        } else {
+            k += 1;
+        }
+    }
+    n
+}

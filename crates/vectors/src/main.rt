@@ -1,38 +1,22 @@
-// Runs outside vectors: prints each value of isin.txt and bic.txt with this library's verdict, 1 or 0, as the files have it from elsewhere.
-use libc::STDOUT_FILENO;
+// Runs vectors: prints a line for each line of its files.
+mod identifiers;
+mod lent;
 
-// What a file's values are judged as.
+// What the lines of a file are.
 enum Kind {
     Isin,
     Swift,
+    Lent,
 }
 
-// Whether the value is right; `-` stands for the empty value.
-fn judged(kind: Kind, value: &[u8]) -> bool {
-    if text::equal(value, b"-") {
-        return judged_bytes(kind, b"");
-    }
-    judged_bytes(kind, value)
-}
-
-fn judged_bytes(kind: Kind, value: &[u8]) -> bool {
+fn print(kind: Kind, line: &[u8]) {
     match kind {
-        Kind::Isin => identifier::is_isin(value),
-        Kind::Swift => identifier::is_swift(value),
+        Kind::Isin => identifiers::print_isin(line),
+        Kind::Swift => identifiers::print_swift(line),
+        Kind::Lent => lent::print(line),
     }
 }
 
-// The line of a value: the value, a space and its verdict.
-fn print(kind: Kind, value: &[u8]) {
-    io::write_all(STDOUT_FILENO, value);
-    if judged(kind, value) {
-        io::write_all(STDOUT_FILENO, b" 1\n");
-    } else {
-        io::write_all(STDOUT_FILENO, b" 0\n");
-    }
-}
-
-// Each line of the file holds a value, a space and the verdict from elsewhere, which is not looked at.
 fn lines(kind: Kind, file: &[u8]) {
     let mut at = 0;
     while at < file.len() {
@@ -41,8 +25,7 @@ fn lines(kind: Kind, file: &[u8]) {
         if rest.len() <= end {
             return;
         }
-        let line = text::front(rest, end);
-        print(kind, text::front(line, text::position(line, b' ')));
+        print(kind, text::front(rest, end));
         at = at + end + 1;
     }
 }
@@ -62,4 +45,5 @@ fn run(kind: Kind, path: &[u8]) {
 fn main() {
     run(Kind::Isin, b"isin.txt");
     run(Kind::Swift, b"bic.txt");
+    run(Kind::Lent, b"lent.txt");
 }

@@ -1,0 +1,59 @@
+-- Laws of the look-ups: what a search through the rows of a compartment finds, what a count of them comes to, and when two numbers differ.
+-- Assumes nothing.
+use Prim.Native.Nat.{ℕ, _+_, _≤_, _<_}
+use native.Mathlib.Numerals.{add-one}
+use native.Mathlib.Omega.{arith}
+use mathlib.Core.Bool.{Bool, true, false}
+use mathlib.Core.List.{List}
+use mathlib.Core.Path.{_≡_, refl, ap, sym, _∙_}
+use borrow.Author.Tests.{eq-eqb, ne-eqb}
+use lib.ListN.{length}
+use Rattle.frame.specs.Every.{howMany}
+use Rattle.frame.proofs.LeastLaws.{least-is, least-none}
+use Rattle.text.specs.Bytes.{same}
+use Rattle.text.proofs.ByteLaws.{same-true}
+use Rattle.ledger.specs.Row.{filled}
+use Rattle.ledger.specs.Sound.{rowsOf, rowCount, compartmentSize}
+use Rattle.ledger.specs.Lookup.{firstRow, filledRows}
+
+-- lists that differ in length, in the last byte, or in whatever is read of them, are not the same
+pub same-apart : (f : List ℕ → ℕ) (s t : List ℕ) → (f s ≡ f t → ⊥) → false ≡ same s t
+same-apart f s t n = go (same s t) refl
+  where
+    go : (b : Bool) → same s t ≡ b → false ≡ b
+    go true e = absurd (n (ap f (same-true s t e)))
+    go false e = refl
+
+-- what a search through the rows knows at its ends
+module _ (c : List ℕ) (p : ℕ → Bool) where
+  pub row-of-none : (length c ≡ compartmentSize → ⊥) → rowCount ≡ firstRow c p
+  row-of-none n = rw (ne-eqb _ _ n)
+
+  pub row-found : (k : ℕ) → length c ≡ compartmentSize → k < rowCount → ((j : ℕ) → j < k → p j ≡ false) → p k ≡ true → k ≡ firstRow c p
+  row-found k l h f e = rw (eq-eqb _ _ l) (sym (least-is rowCount p k h f e))
+
+  pub row-missing : (k : ℕ) → length c ≡ compartmentSize → rowCount ≤ k → ((j : ℕ) → j < k → p j ≡ false) → rowCount ≡ firstRow c p
+  row-missing k l h f = rw (eq-eqb _ _ l) (sym (least-none rowCount p (λ j m. f j (omega arith))))
+
+-- what a count knows at its start, after a number that passes, and after one that doesn't
+module _ (p : ℕ → Bool) where
+  pub many-none : 0 ≡ howMany 0 p
+  unfolding howMany
+  many-none = refl
+
+  pub many-more : (n k : ℕ) → n ≡ howMany k p → p k ≡ true → n + 1 ≡ howMany (k + 1) p
+  unfolding howMany
+  many-more n k e h = rw (add-one k, h, e)
+
+  pub many-same : (n k : ℕ) → n ≡ howMany k p → p k ≡ false → n ≡ howMany (k + 1) p
+  unfolding howMany
+  many-same n k e h = rw (add-one k, h) (omega arith)
+
+pub filled-of-none : (c : List ℕ) → (length c ≡ compartmentSize → ⊥) → 0 ≡ filledRows c
+unfolding filledRows
+filled-of-none c n = rw (ne-eqb _ _ n)
+
+pub filled-counted : (c : List ℕ) (n k : ℕ) → length c ≡ compartmentSize → k ≤ rowCount → rowCount ≤ k
+    → n ≡ howMany k (λ j. filled (rowsOf c j)) → n ≡ filledRows c
+unfolding filledRows
+filled-counted c n k l h g e = let q : k ≡ rowCount = omega arith in rw (eq-eqb _ _ l) (e ∙ rw q)
