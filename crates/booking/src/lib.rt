@@ -5,41 +5,23 @@ ghost use lib.ListN.{length, getD};
 ghost use Rattle.ledger.specs.Row.{rowSize, numberRoom};
 ghost use Rattle.ledger.specs.Sound.{rowCount, compartmentSize};
 ghost use Rattle.booking.specs.Booking.{padded, newRow, entered, relinked, relinkedAt, cancelledBy, canBook, booked};
-
-// Rows of a compartment, bytes of a row, bytes of a compartment.
-const ROWS: usize = 64;
-
-const ROW: usize = 32;
-
-const COMPARTMENT: usize = 2048;
-
-// Where the parts of a row stand.
-const STATE: usize = 0;
-
-const LENGTH: usize = 1;
-
-const NUMBER: usize = 2;
-
-const QUANTITY: usize = 18;
-
-const PARTNER: usize = 26;
-
-const SIDE: usize = 28;
-
-const ZEROS: usize = 29;
-
-// Bytes that a number may take.
-const NUMBER_ROOM: usize = 16;
+use ledger::CANCELLATION;
+use ledger::CANCELLED;
+use ledger::COMPARTMENT_SIZE;
+use ledger::LENGTH_PLACE;
+use ledger::LIVE;
+use ledger::NUMBER_PLACE;
+use ledger::NUMBER_ROOM;
+use ledger::PARTNER_PLACE;
+use ledger::QUANTITY_PLACE;
+use ledger::ROW_COUNT;
+use ledger::ROW_SIZE;
+use ledger::SIDE_PLACE;
+use ledger::STATE_PLACE;
+use ledger::ZEROS_PLACE;
 
 // What stands for no partner.
 const NO_PARTNER: u16 = 65535;
-
-// States of a row.
-const LIVE: u8 = 1;
-
-const CANCELLED: u8 = 2;
-
-const CANCELLATION: u8 = 3;
 
 // Byte i of the sixteen that hold a number: of the number, or a zero after it.
 fn padded_byte(n: &[u8], i: usize) -> u8
@@ -66,15 +48,15 @@ fn fill_row(w: &mut [u8], n: &[u8], q: u64, s: u8)
     requires { ⌜ (length (now w) ≡ rowSize) × (length (now n) ≤ numberRoom) ⌝ }
     ensures { λ r. ⌜ now (w .exit) ≡ newRow (now (n .entry)) q s ⌝ }
 {
-    w[STATE] = LIVE;
-    w[LENGTH] = n.len() as u8;
-    w[SIDE] = s;
-    w[ZEROS] = 0;
-    w[ZEROS + 1] = 0;
-    w[ZEROS + 2] = 0;
-    put_number(&mut w[NUMBER..QUANTITY], n);
-    text::write_u64(w, QUANTITY, q);
-    text::write_u16(w, PARTNER, NO_PARTNER);
+    w[STATE_PLACE] = LIVE;
+    w[LENGTH_PLACE] = n.len() as u8;
+    w[SIDE_PLACE] = s;
+    w[ZEROS_PLACE] = 0;
+    w[ZEROS_PLACE + 1] = 0;
+    w[ZEROS_PLACE + 2] = 0;
+    put_number(&mut w[NUMBER_PLACE..QUANTITY_PLACE], n);
+    text::write_u64(w, QUANTITY_PLACE, q);
+    text::write_u16(w, PARTNER_PLACE, NO_PARTNER);
 }
 
 // Gives a row another state and the partner p.
@@ -82,8 +64,8 @@ fn relink(w: &mut [u8], state: u8, p: usize)
     requires { ⌜ (length (now w) ≡ rowSize) × (p < rowCount) ⌝ }
     ensures { λ r. ⌜ now (w .exit) ≡ relinked state p (now (w .entry)) ⌝ }
 {
-    w[STATE] = state;
-    text::write_u16(w, PARTNER, p as u16);
+    w[STATE_PLACE] = state;
+    text::write_u16(w, PARTNER_PLACE, p as u16);
 }
 
 // Enters a new live row in row f.
@@ -91,8 +73,8 @@ fn enter(c: &mut [u8], f: usize, n: &[u8], q: u64, s: u8)
     requires { ⌜ (length (now c) ≡ compartmentSize) × (f < rowCount) × (length (now n) ≤ numberRoom) ⌝ }
     ensures { λ r. ⌜ now (c .exit) ≡ entered f (now (n .entry)) q s (now (c .entry)) ⌝ }
 {
-    let a = f * ROW;
-    let e = a + ROW;
+    let a = f * ROW_SIZE;
+    let e = a + ROW_SIZE;
     fill_row(&mut c[a..e], n, q, s);
 }
 
@@ -101,8 +83,8 @@ fn relink_row(c: &mut [u8], k: usize, state: u8, p: usize)
     requires { ⌜ (length (now c) ≡ compartmentSize) × (k < rowCount) × (p < rowCount) ⌝ }
     ensures { λ r. ⌜ now (c .exit) ≡ relinkedAt k state p (now (c .entry)) ⌝ }
 {
-    let a = k * ROW;
-    let e = a + ROW;
+    let a = k * ROW_SIZE;
+    let e = a + ROW_SIZE;
     relink(&mut c[a..e], state, p);
 }
 
@@ -119,7 +101,7 @@ fn cancel(c: &mut [u8], f: usize, p: usize)
 fn can_book(c: &[u8], f: usize, n: &[u8]) -> bool
     ensures { λ r. ⌜ r ≡ canBook f (now (n .entry)) (now (c .entry)) ⌝ }
 {
-    (c.len() == COMPARTMENT) & ((f < ROWS) & (n.len() <= NUMBER_ROOM))
+    (c.len() == COMPARTMENT_SIZE) & ((f < ROW_COUNT) & (n.len() <= NUMBER_ROOM))
 }
 
 // Books number n, quantity q and side s in row f, and cancels row p where p is a row; nothing where no booking can be made.
@@ -130,7 +112,7 @@ pub fn book(c: &mut [u8], f: usize, n: &[u8], q: u64, s: u8, p: usize)
         return;
     }
     enter(c, f, n, q, s);
-    if p < ROWS {
+    if p < ROW_COUNT {
         cancel(c, f, p);
     }
 }

@@ -13,42 +13,42 @@ ghost use Rattle.ledger.specs.Sound.{soundLedger};
 ghost use Rattle.ledger.specs.Lookup.{freeRow, rowByNumber, liveRow, filledRows};
 use text::Class;
 
-const ROW_SIZE: usize = 32;
+pub const ROW_SIZE: usize = 32;
 
-const ROW_COUNT: usize = 64;
+pub const ROW_COUNT: usize = 64;
 
-const COMPARTMENT_SIZE: usize = ROW_COUNT * ROW_SIZE;
+pub const COMPARTMENT_SIZE: usize = ROW_COUNT * ROW_SIZE;
 
-const BANK_COUNT: usize = 16;
+pub const BANK_COUNT: usize = 16;
 
 const LEDGER_SIZE: usize = BANK_COUNT * COMPARTMENT_SIZE;
 
 // The places of a row.
-const STATE_PLACE: usize = 0;
+pub const STATE_PLACE: usize = 0;
 
-const LENGTH_PLACE: usize = 1;
+pub const LENGTH_PLACE: usize = 1;
 
-const NUMBER_PLACE: usize = 2;
+pub const NUMBER_PLACE: usize = 2;
 
 const SECOND_WORD_PLACE: usize = 10;
 
-const QUANTITY_PLACE: usize = 18;
+pub const QUANTITY_PLACE: usize = 18;
 
-const PARTNER_PLACE: usize = 26;
+pub const PARTNER_PLACE: usize = 26;
 
-const SIDE_PLACE: usize = 28;
+pub const SIDE_PLACE: usize = 28;
 
-const ZEROS_PLACE: usize = 29;
+pub const ZEROS_PLACE: usize = 29;
 
 const FREE: u8 = 0;
 
-const LIVE: u8 = 1;
+pub const LIVE: u8 = 1;
 
-const CANCELLED: u8 = 2;
+pub const CANCELLED: u8 = 2;
 
-const CANCELLATION: u8 = 3;
+pub const CANCELLATION: u8 = 3;
 
-const NUMBER_ROOM: usize = 16;
+pub const NUMBER_ROOM: usize = 16;
 
 const LARGEST_QUANTITY: u64 = 9_999_999_999_999_999_999;
 
