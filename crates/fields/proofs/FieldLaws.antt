@@ -18,7 +18,7 @@ use Rattle.frame.proofs.BoolLaws.{and-false}
 use Rattle.text.specs.Bytes.{countOf}
 use Rattle.fields.specs.declared.Place.{Place}
 use Rattle.fields.specs.Fields.{semicolonsFrom, semicolons, isWhole, fieldStart, fieldEnd, emptyPlace, fieldPlace, fieldOf, Lies}
-use Rattle.fields.specs.Fields.{stopsOf, isWholeIndex, isPlaced, placeIn}
+use Rattle.fields.specs.Fields.{stopsOf, isWholeIndex, isPlaced, placeIn, fieldBy}
 
 -- the laws that the loop of the index uses. Found so far: the first stops; what is still to be found stands in the rest, from i
 module _ (s stops : List ℕ) (found i : ℕ) (e : semicolons s ≡ take found stops ++ semicolonsFrom i (drop i s)) where
@@ -246,6 +246,11 @@ module _ (s : List ℕ) (n : ℕ) where
 
   pub field-inside : fieldPlace s n .start + fieldPlace s n .length ≤ length s
   field-inside = rw (← placed) (place-inside (length s) (stopsOf s) n)
+
+-- the index of a record gives its fields' bytes
+pub field-by : (s : List ℕ) (n : ℕ) → fieldBy s (stopsOf s) n ≡ fieldOf s n
+unfolding fieldOf
+field-by s n = rw placed refl
 
 -- the bytes of what lies where the field view says
 pub lies-field : (s : RefT (List ℕ)) (n : ℕ) {r : RefT (List ℕ)} → Lies s (fieldPlace (now s) n) r → now r ≡ fieldOf (now s) n

@@ -67,6 +67,10 @@ placeIn size stops n =
     (let start = cond (eqb n 1) 0 (suc (getD stops (n - 2) 0)) in record { start = start; length = getD stops (n - 1) 0 - start })
     emptyPlace
 
+-- the bytes of field n by an index
+abbrev pub fieldBy : List ℕ → List ℕ → ℕ → List ℕ
+fieldBy s stops n = bytesAt s (placeIn (length s) stops n)
+
 -- a part of s: its bytes are those at the place, and it lies there in the caller's memory
 pub record Lies (s : RefT (List ℕ)) (p : Place) (r : RefT (List ℕ)) : Type 0 where
   pub bytes : now r ≡ bytesAt (now s) p

@@ -1,6 +1,7 @@
 // The fields of a record, as parts of the caller's slice.
 ghost use mathlib.Core.Path.{_≡_};
-ghost use lib.ListN.{length};
+ghost use lib.ListN.{length, getD};
+ghost use Rattle.fields.specs.Forms.{letter};
 ghost use Rattle.fields.specs.Fields.{stopsOf, isWholeIndex, emptyPlace, placeIn, fieldPlace, Lies};
 
 // Where a part lies in a record.
@@ -100,4 +101,18 @@ pub fn field(s: &[u8], n: usize) -> &[u8]
 {
     let stops = index(s);
     part(s, &stops, n)
+}
+
+// The byte of a field of one byte; 0 for any other field.
+pub fn letter_of(s: &[u8]) -> u8
+    ensures { λ r. ⌜ r ≡ letter (now (s .entry)) ⌝ }
+{
+    if s.len() == 1 { s[0] } else { 0 }
+}
+
+// The first byte of a field; 0 for a blank one.
+pub fn first_byte(s: &[u8]) -> u8
+    ensures { λ r. ⌜ r ≡ getD (now (s .entry)) 0 0 ⌝ }
+{
+    if 0 < s.len() { s[0] } else { 0 }
 }

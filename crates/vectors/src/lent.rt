@@ -1,5 +1,5 @@
-// Tables and ledgers, sound and damaged. A case is a line: its kind, a name for the rule that it breaks or meets, its length, and those of its bytes that are not
-// all zero, as PLACE:HEX.
+// Tables and ledgers, sound and damaged. A case is a line: its kind, a name for the rule that it breaks or meets, its length, and those of its
+// bytes that are not all zero, as PLACE:HEX.
 ghost use Prim.Native.Nat.{_<_};
 use decimal::Decimal;
 use libc::STDOUT_FILENO;

@@ -1,0 +1,4 @@
+pub mod Terms
+pub mod Capacity
+pub mod Derivative
+pub mod Marks

@@ -1,0 +1,2 @@
+pub mod UnderlyingLaws
+pub mod Worked

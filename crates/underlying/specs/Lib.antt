@@ -1,0 +1,2 @@
+pub mod Underlying
+pub mod Cases
