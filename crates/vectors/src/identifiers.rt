@@ -1,9 +1,10 @@
 // Values of ISINs and SWIFT addresses, each with a verdict from elsewhere, which is not looked at.
+use crate::words::word;
 use libc::STDOUT_FILENO;
 
 // The value of a line, which stands before the space; `-` is the empty value.
 fn value(line: &[u8]) -> &[u8] {
-    let v = text::front(line, text::position(line, b' '));
+    let v = word(line);
     if text::equal(v, b"-") {
         text::front(v, 0)
     } else {
@@ -13,7 +14,7 @@ fn value(line: &[u8]) -> &[u8] {
 
 // The line as it was, up to its space, and this library's verdict.
 fn print(line: &[u8], right: bool) {
-    io::write_all(STDOUT_FILENO, text::front(line, text::position(line, b' ')));
+    io::write_all(STDOUT_FILENO, word(line));
     if right {
         io::write_all(STDOUT_FILENO, b" 1\n");
     } else {

@@ -1,23 +1,10 @@
 // Tables and ledgers, sound and damaged. A case is a line: its kind, a name for the rule that it breaks or meets, its length, and those of its
 // bytes that are not all zero, as PLACE:HEX.
 ghost use Prim.Native.Nat.{_<_};
+use crate::words::behind;
+use crate::words::word;
 use decimal::Decimal;
 use libc::STDOUT_FILENO;
-
-// The text before the first space.
-fn word(s: &[u8]) -> &[u8] {
-    text::front(s, text::position(s, b' '))
-}
-
-// The text behind the first space.
-fn behind(s: &[u8]) -> &[u8] {
-    let n = text::position(s, b' ');
-    if n < s.len() {
-        text::rest(s, n + 1)
-    } else {
-        text::rest(s, n)
-    }
-}
 
 fn number(s: &[u8]) -> u64 {
     match decimal::read(s, 9, 0) {

@@ -4,10 +4,6 @@ use mathlib.Core.Path.{_≡_}
 use lib.ListN.{length, length-set}
 use Rattle.vectors.proofs.lent.fill.Statement.{statement}
 use Rattle.vectors.proofs.lent.fill.Tie as tie
-use Rattle.vectors.proofs.lent.fill.Reads as reads
-use Rattle.vectors.proofs.lent.fill.Lts as lts
-use Rattle.text.proofs.rest.Reads as rest-reads
-use Rattle.vectors.proofs.lent.hex_byte.Reads as hex-byte-reads
 
 abbrev Inv-loop : tie.InvT-loop
 Inv-loop part₀ hex i₀ part i = (length part ≡ length part₀) × (i ≤ length part₀)
@@ -15,51 +11,33 @@ Inv-loop part₀ hex i₀ part i = (length part ≡ length part₀) × (i ≤ le
 abbrev μ-loop : tie.MeasureT-loop
 μ-loop part₀ hex i₀ part i = length part₀ - i
 
--- src/lent.rt:52:5
 loop-holds : tie.Need-loop-holds Inv-loop μ-loop
 loop-holds c = search needs
 
--- src/lent.rt:54:13
 same-length : tie.Need-same-length Inv-loop μ-loop
 same-length c = search needs
 
--- src/lent.rt:54:13
 returns : tie.Need-returns Inv-loop μ-loop
 returns c = search needs
 
--- src/lent.rt:56:44
 mul-rest : tie.Need-mul-rest Inv-loop μ-loop
 mul-rest c = search needs
 
--- src/lent.rt:56:28
-rest-requires : tie.Need-rest-requires Inv-loop μ-loop
-rest-requires c κs = search needs
-
--- src/lent.rt:56:19
-hex-byte-requires : tie.Need-hex-byte-requires Inv-loop μ-loop
-hex-byte-requires c κs = search needs
-
--- src/lent.rt:56:9
 slice-write-part : tie.Need-slice-write-part Inv-loop μ-loop
 slice-write-part c = search needs
 
--- src/lent.rt:57:9
 add-i : tie.Need-add-i Inv-loop μ-loop
 add-i c = search needs
 
--- src/lent.rt:52:5
 loop-less : tie.Need-loop-less Inv-loop μ-loop
 loop-less c = search needs
 
--- src/lent.rt:52:5
 loop-again : tie.Need-loop-again Inv-loop μ-loop
 loop-again c = (simp length-set (c .before .before .before .before .loop .inv .0), search needs)
 
--- src/lent.rt:50:1
 same-length-2 : tie.Need-same-length-2 Inv-loop μ-loop
 same-length-2 c = search needs
 
--- src/lent.rt:50:1
 returns-2 : tie.Need-returns-2 Inv-loop μ-loop
 returns-2 c = search needs
 
@@ -73,8 +51,8 @@ fill-spec =
     same-length
     returns
     mul-rest
-    rest-requires
-    hex-byte-requires
+    (λ c κs. tt)
+    (λ c κs. tt)
     slice-write-part
     add-i
     loop-less
