@@ -1,0 +1,22 @@
+-- The rules of document 01 as the theorem on isolation reads them: what a list of single-record calls is run under, for a pair of tables.
+-- Assumes nothing.
+use Prim.Native.Nat.{ℕ}
+use mathlib.Core.List.{List}
+use Rattle.frame.specs.Isolation.{Rules}
+use Rattle.ledger.specs.Sound.{bankCount, compartmentSize, soundCompartment}
+use Rattle.answer.specs.Answer.{answerBytes}
+use Rattle.calls.specs.Call.{Call, noRow, refusalOf, checkedOf, rowOf, failedOf, noReporter, answerOf, stepAnswer, stepCompartment}
+
+abbrev pub rules : List ℕ → List ℕ → Rules
+rules reporters currencies = record {
+  Call = Call;
+  Answer = List ℕ;
+  banks = bankCount;
+  size = compartmentSize;
+  sound = soundCompartment;
+  refusal = refusalOf reporters currencies;
+  bank = λ call. rowOf (checkedOf reporters call);
+  stranger = λ call. answerBytes (answerOf (failedOf (checkedOf reporters call)) noReporter noRow (call .message));
+  judge = λ call c. answerBytes (stepAnswer reporters currencies (rowOf (checkedOf reporters call)) (call .message) c);
+  next = λ call c. stepCompartment reporters currencies (rowOf (checkedOf reporters call)) (call .message) c;
+}

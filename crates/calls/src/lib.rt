@@ -1,0 +1,174 @@
+// The single-record call.
+ghost use mathlib.Core.Path.{_≡_};
+ghost use mathlib.Core.Bool.{true};
+ghost use Prim.Native.Nat.{_≤_, _<_};
+ghost use lib.ListN.{length};
+ghost use Rattle.frame.specs.Isolation.{single, answer};
+ghost use Rattle.answer.specs.Answer.{answerBytes};
+ghost use Rattle.decimal.specs.Decimal.{decimalOf};
+ghost use Rattle.fields.specs.Fields.{stopsOf};
+ghost use Rattle.tables.specs.Currencies.{currenciesOk};
+ghost use Rattle.ledger.specs.Sound.{bankCount, soundLedger};
+ghost use Rattle.calls.specs.Call.{recordLimit, noReporter, noRow, failedOf, recordForm, refusalOf, called, answerOf, valueOf, bookedAs, stepAnswer, stepCompartment};
+ghost use Rattle.calls.specs.Rules.{rules};
+ghost use Rattle.calls.specs.Reply.{opened, outcome};
+use answer::Answer;
+use decimal::Decimal;
+use failures::Failures;
+use fields::part;
+use ledger::COMPARTMENT_SIZE;
+use sender::Checked;
+use text::Class;
+
+// The largest record.
+const RECORD_LIMIT: usize = 32768;
+
+// The row of a record that passes for no bank, and of a record that is not booked.
+const NO_REPORTER: usize = 255;
+
+const NO_ROW: usize = 65535;
+
+// What a call returns: the number of its refusal, or its answer.
+pub enum Reply {
+    Refused(u8),
+    Answered(Answer),
+}
+
+// Whether a record is at most 32,768 bytes, without CR, LF or apostrophe.
+fn is_record(s: &[u8]) -> bool
+    ensures { λ r. ⌜ r ≡ recordForm (now (s .entry)) ⌝ }
+{
+    s.len() <= RECORD_LIMIT && text::all(Class::RecordByte, s)
+}
+
+// The number by which a call is refused, the first that applies; 0 for none.
+fn refusal<'a>(
+    reporters: &'a [u8],
+    currencies: &'a [u8],
+    book: &'a [u8],
+    from: &'a [u8],
+    s: &'a [u8],
+) -> u8
+    ensures { λ r. ⌜ r ≡ refusalOf (now (reporters .entry)) (now (currencies .entry)) (called (now (from .entry)) (now (s .entry))) (soundLedger (now (book .entry))) ⌝ }
+{
+    if !tables::reporters_ok(reporters) {
+        return 2;
+    }
+    if !tables::currencies_ok(currencies) {
+        return 3;
+    }
+    if !ledger::sound_ledger(book) {
+        return 4;
+    }
+    if !identifier::is_name(from, 8) {
+        return 13;
+    }
+    if !is_record(s) {
+        return 14;
+    }
+    0
+}
+
+// The answer to a record with these failures, for a reporter's row, booked in a new row.
+fn answer_of(failed: Failures, row: usize, new: usize, s: &[u8]) -> Answer
+    requires { ⌜ (row < 256) × (new < 65536) × (length (now s) ≤ recordLimit) ⌝ }
+    ensures { λ r. ⌜ r ≡ answerOf failed row new (now (s .entry)) ⌝ }
+{
+    Answer {
+        failed: failed.bits,
+        code: failed.code(),
+        row: row as u8,
+        status: checks::status(failed),
+        booked: new as u16,
+        length: s.len() as u16,
+    }
+}
+
+// The quantity of field 22, in ten-thousandths.
+fn quantity(f22: &[u8]) -> u64
+    ensures { λ r. ⌜ r ≡ valueOf (decimalOf 15 4 (now (f22 .entry))) ⌝ }
+{
+    match decimal::read(f22, 15, 4) {
+        Decimal::Value(q) => q,
+        Decimal::Malformed => 0,
+    }
+}
+
+// Books a record that has no failure in its bank's compartment.
+fn book_record<'a>(c: &mut [u8], free: usize, named: usize, s: &'a [u8], stops: &'a [usize; 39])
+    requires { ⌜ now stops ≡ stopsOf (now s) ⌝ }
+    ensures { λ r. ⌜ now (c .exit) ≡ bookedAs free named (now (s .entry)) (now (c .entry)) ⌝ }
+{
+    let side = fields::letter_of(part(s, stops, 7));
+    let q = quantity(part(s, stops, 22));
+    booking::book(c, free, part(s, stops, 39), q, side, named);
+}
+
+// The one step that judges places 7 to 63 and books. It is lent the compartment of the record's bank, and nothing of the others.
+fn step<'a>(
+    c: &mut [u8],
+    reporters: &'a [u8],
+    currencies: &'a [u8],
+    row: usize,
+    s: &'a [u8],
+    stops: &'a [usize; 39],
+) -> Answer
+    requires { ⌜ (row < 256) × (length (now s) ≤ recordLimit) × (now stops ≡ stopsOf (now s)) × (currenciesOk (now currencies) ≡ true) ⌝ }
+    ensures { λ r. ⌜ r ≡ stepAnswer (now (reporters .entry)) (now (currencies .entry)) row (now (s .entry)) (now (c .entry)) ⌝ }
+    ensures { λ r. ⌜ now (c .exit) ≡ stepCompartment (now (reporters .entry)) (now (currencies .entry)) row (now (s .entry)) (now (c .entry)) ⌝ }
+{
+    let judged = checks::judge(reporters, currencies, row, s, stops);
+    if judged.bits != 0 {
+        return answer_of(judged, row, NO_ROW, s);
+    }
+    let found = checks::judge_booking(c, part(s, stops, 16), part(s, stops, 39));
+    let failed = found.failed;
+    if failed.bits != 0 {
+        return answer_of(failed, row, NO_ROW, s);
+    }
+    let free = found.free;
+    book_record(c, free, found.named, s, stops);
+    answer_of(failed, row, free, s)
+}
+
+// The reply to a record that passes for no bank.
+fn stranger(checked: Checked, s: &[u8]) -> Reply
+    requires { ⌜ length (now s) ≤ recordLimit ⌝ }
+    ensures { λ r. ⌜ opened r ≡ answer (answerBytes (answerOf (failedOf checked) noReporter noRow (now (s .entry)))) ⌝ }
+{
+    match checked {
+        Checked::Failed(failed) => Reply::Answered(answer_of(failed, NO_REPORTER, NO_ROW, s)),
+        Checked::Passed(_) => Reply::Answered(answer_of(Failures::none(), NO_REPORTER, NO_ROW, s)),
+    }
+}
+
+// The single-record call: refusals 2, 3, 4, 13, 14 in that order; then the sender check; then, for a record that passes it, the step on its bank's compartment.
+pub fn record_call<'a>(
+    reporters: &'a [u8],
+    currencies: &'a [u8],
+    book: &mut [u8],
+    from: &'a [u8],
+    s: &'a [u8],
+) -> Reply
+    ensures { λ r. ⌜ outcome r (now (book .exit)) ≡ single (rules (now (reporters .entry)) (now (currencies .entry))) (called (now (from .entry)) (now (s .entry))) (now (book .entry)) ⌝ }
+{
+    let n = refusal(reporters, currencies, book, from, s);
+    if n != 0 {
+        return Reply::Refused(n);
+    }
+    let stops = fields::index(s);
+    let whole = fields::is_whole(&stops);
+    let checked = sender::check(
+        reporters,
+        from,
+        whole,
+        part(s, &stops, 1),
+        part(s, &stops, 2),
+    );
+    let Checked::Passed(row) = checked else {
+        return stranger(checked, s);
+    };
+    let a = row * COMPARTMENT_SIZE;
+    let e = a + COMPARTMENT_SIZE;
+    Reply::Answered(step(&mut book[a..e], reporters, currencies, row, s, &stops))
+}
