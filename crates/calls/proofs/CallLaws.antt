@@ -118,7 +118,8 @@ checked-same reporters from s stops e w p q r =
 pub passed-bank : (reporters : List ℕ) (call : Call) {row : ℕ} → reportersOk reporters ≡ true → checkedOf reporters call ≡ Passed row → row < bankCount
 unfolding checkedOf
 passed-bank reporters call ok e =
-    omega (arith, rows-below reporters ok, passed-row reporters (call .sender) (isWhole (call .message)) (fieldOf (call .message) 1) (fieldOf (call .message) 2) e .1)
+    let s = call .message in
+    omega (arith, rows-below reporters ok, passed-row reporters (call .sender) (isWhole s) (fieldOf s 1) (fieldOf s 2) e .1)
 
 -- places 7 to 60 on what the index gives, with a search of the currency list in order
 pub record-same : (reporters currencies : List ℕ) (row : ℕ) (s stops : List ℕ) → stops ≡ stopsOf s → currenciesOk currencies ≡ true

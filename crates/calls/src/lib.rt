@@ -49,7 +49,8 @@ fn refusal<'a>(
     from: &'a [u8],
     s: &'a [u8],
 ) -> u8
-    ensures { λ r. ⌜ r ≡ refusalOf (now (reporters .entry)) (now (currencies .entry)) (called (now (from .entry)) (now (s .entry))) (soundLedger (now (book .entry))) ⌝ }
+    ensures { λ r. ⌜ r ≡ refusalOf (now (reporters .entry)) (now (currencies .entry)) (called (now (from .entry)) (now (s .entry)))
+        (soundLedger (now (book .entry))) ⌝ }
 {
     if !tables::reporters_ok(reporters) {
         return 2;
@@ -142,7 +143,8 @@ fn stranger(checked: Checked, s: &[u8]) -> Reply
     }
 }
 
-// The single-record call: refusals 2, 3, 4, 13, 14 in that order; then the sender check; then, for a record that passes it, the step on its bank's compartment.
+// The single-record call: refusals 2, 3, 4, 13, 14 in that order; then the sender check; then, for a record that passes it, the step on its
+// bank's compartment.
 pub fn record_call<'a>(
     reporters: &'a [u8],
     currencies: &'a [u8],
@@ -150,7 +152,8 @@ pub fn record_call<'a>(
     from: &'a [u8],
     s: &'a [u8],
 ) -> Reply
-    ensures { λ r. ⌜ outcome r (now (book .exit)) ≡ single (rules (now (reporters .entry)) (now (currencies .entry))) (called (now (from .entry)) (now (s .entry))) (now (book .entry)) ⌝ }
+    ensures { λ r. ⌜ outcome r (now (book .exit)) ≡ single (rules (now (reporters .entry)) (now (currencies .entry)))
+        (called (now (from .entry)) (now (s .entry))) (now (book .entry)) ⌝ }
 {
     let n = refusal(reporters, currencies, book, from, s);
     if n != 0 {
