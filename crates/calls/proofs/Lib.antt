@@ -1,1 +1,3 @@
 pub mod CallLaws
+pub mod StepLaws
+pub mod Demand3

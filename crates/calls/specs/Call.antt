@@ -8,9 +8,7 @@ use lib.ListN.{length}
 use Rattle.text.specs.Class.{isRecordByte}
 use Rattle.text.specs.Bytes.{all}
 use Rattle.identifier.specs.Identifier.{nameUpTo}
-use Rattle.decimal.specs.declared.Decimal.{Decimal}
-use Rattle.decimal.specs.declared.Decimal.the-variants.{Value, Malformed}
-use Rattle.decimal.specs.Decimal.{decimalOf}
+use Rattle.decimal.specs.Decimal.{decimalOf, valueOf}
 use Rattle.failures.specs.declared.Failures.{Failures}
 use Rattle.failures.specs.Failures.{noFailure, firstPlace}
 use Rattle.failures.specs.Codes.{codeAt}
@@ -77,11 +75,6 @@ answerOf failed row new s =
       booked = new;
       length = length s;
     }
-
--- the value of F22 in ten-thousandths
-abbrev pub valueOf : Decimal → ℕ
-valueOf (Value x) = x
-valueOf Malformed = 0
 
 -- "No failure": the free row gets F39, F22's value and F7; the named row, if there is one, is cancelled
 unfoldable pub bookedAs : ℕ → ℕ → List ℕ → List ℕ → List ℕ

@@ -1,3 +1,4 @@
 pub mod RecordLaws
+pub mod PassedLaws
 pub mod VerdictLaws
 pub mod Worked

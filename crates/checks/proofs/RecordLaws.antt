@@ -4,7 +4,7 @@ use Prim.Native.Nat.{ℕ, _+_}
 use mathlib.Core.Bool.{Bool, true, false, _&&_, not, cond}
 use mathlib.Core.List.{List, [], _∷_, _++_}
 use mathlib.Core.Path.{_≡_, refl, ap, _∙_, subst}
-use lib.ListN.{length}
+use lib.ListN.{length, length-append}
 use Rattle.failures.specs.declared.Failures.{Failures}
 use Rattle.failures.specs.Failures.{addedFrom, noFailure}
 use Rattle.failures.proofs.FailureLaws.{added-append}
@@ -20,7 +20,7 @@ use Rattle.checks.specs.Record.{clientOf, tradeOf, instrumentOf, termsBy
 use Rattle.checks.specs.Record.{recordTests, recordFailures}
 
 -- whether it is judged or not, a group has its count of places
-underlying-length : (F : ℕ → List ℕ) → length (underlyingOf F) ≡ 7
+pub underlying-length : (F : ℕ → List ℕ) → length (underlyingOf F) ≡ 7
 unfolding underlyingOf underlyingTests presentTests
 underlying-length F = of (asksUnderlying (F 21) && not (isMissing (F 33)))
   where
@@ -28,6 +28,12 @@ underlying-length F = of (asksUnderlying (F 21) && not (isMissing (F 33)))
         → length ((asksUnderlying (F 21) && isMissing (F 33)) ∷ cond b (presentTests (F 19) (F 33)) (false ∷ false ∷ false ∷ false ∷ false ∷ false ∷ [])) ≡ 7
     of true = refl
     of false = refl
+
+-- 54 places, 7 to 60
+pub record-length : (reporters : List ℕ) (money : List ℕ → Bool) (row : ℕ) (F : ℕ → List ℕ) → length (recordTests reporters money row F) ≡ 54
+unfolding recordTests clientOf tradeOf instrumentOf termsBy capacityOf derivativeBy marksOf
+    clientTests tradeTests instrumentTests termsTests capacityTests derivativeTests markTests
+record-length reporters money row F = simp (length-append, underlying-length F) refl
 
 -- a group that is added at the place behind another
 next-group : (ts us : List Bool) (s : Failures) (k n : ℕ) → length ts ≡ n → addedFrom (addedFrom s k ts) (k + n) us ≡ addedFrom s k (ts ++ us)

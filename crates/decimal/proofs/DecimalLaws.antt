@@ -1,13 +1,14 @@
 -- Laws of the numbers that digits write, and the cases of the form Nm,n.
 -- Assumes nothing.
 use Prim.Native.Nat.{ℕ, zero, suc, _+_, _-_, _*_, _^_, _<_, _≤_}
-use mathlib.Core.Bool.{Bool, true, false, _&&_}
+use Prim.Native.Char.{code}
+use mathlib.Core.Bool.{Bool, true, false, _&&_, cond}
 use mathlib.Core.List.{List, [], _∷_}
 use mathlib.Core.Path.{_≡_, refl, ap, sym, _∙_}
 use native.Mathlib.Nat.{zero-add, mul-lt-mul-of-pos-right, one-le-pow, add-sub-of-le, pow-suc, pow-le-pow-right, add-zero, add-suc, suc-add, lt-of-lt-of-le}
 use native.Mathlib.Numerals.{add-one}
 use native.Mathlib.Omega.{arith}
-use lib.Dec.{lit<, leb}
+use lib.Dec.{lit<, leb, ltb}
 use borrow.Author.Tests.{leb-true, le-leb, lt-leb, lt-ltb, le-ltb}
 use lib.Arith.{digits-lt}
 use lib.Pow.{pow-add}
@@ -18,7 +19,7 @@ use Rattle.text.specs.Bytes.{all, positionOf}
 use Rattle.frame.proofs.BoolLaws.{and-left, and-right}
 use Rattle.text.proofs.ByteLaws.{digit-high, take-rest}
 use Rattle.text.proofs.NumberLaws.{digit-more, below-power}
-use Rattle.decimal.specs.Decimal.{numberAfter, number, digitsUpTo, wholeOnly, wholeAndPart, decimalAt, decimalOf}
+use Rattle.decimal.specs.Decimal.{numberAfter, number, digitsUpTo, wholeOnly, wholeAndPart, decimalAt, decimalOf, valueOf}
 use Rattle.decimal.specs.declared.Decimal.{Decimal}
 use Rattle.decimal.specs.declared.Decimal.the-variants.{Value, Malformed}
 
@@ -100,3 +101,37 @@ with-part m n k s h e l q = rw (le-leb _ _ h, ← e, lt-ltb _ _ l) (rw take-rest
 pub no-part : (m n k : ℕ) (s : List ℕ) {r : Decimal} → m + n ≤ 19 → k ≡ positionOf 44 s → length s ≤ k → r ≡ wholeOnly m n s → r ≡ decimalOf m n s
 unfolding decimalOf decimalAt
 no-part m n k s h e l q = rw (le-leb _ _ h, ← e, le-ltb _ _ l) q
+
+-- a value of Nm,n is below 10 ^ (m + n)
+digits-below : (m n k : ℕ) {x : ℕ} → x < 10 ^ (k + n) → k ≤ m → x < 10 ^ (m + n)
+digits-below m n k h l = below-power 9 h (omega arith)
+
+whole-below : (m n : ℕ) (w : List ℕ) → valueOf (wholeOnly m n w) < 10 ^ (m + n)
+unfolding wholeOnly
+whole-below m n w = go (digitsUpTo m w) refl
+  where
+    go : (b : Bool) → digitsUpTo m w ≡ b → valueOf (cond b (Value (number w * 10 ^ n)) Malformed) < 10 ^ (m + n)
+    go true e = digits-below m n (length w) (scaled-below w n (upto-digits m w e)) (upto-length m w e)
+    go false e = one-le-pow (m + n) 10 (lit< tt)
+
+part-below : (m n : ℕ) (w f : List ℕ) → valueOf (wholeAndPart m n w f) < 10 ^ (m + n)
+unfolding wholeAndPart
+part-below m n w f = go (digitsUpTo m w) (digitsUpTo n f) refl refl
+  where
+    go : (a b : Bool) → digitsUpTo m w ≡ a → digitsUpTo n f ≡ b
+      → valueOf (cond (a && b) (Value (number w * 10 ^ n + number f * 10 ^ (n - length f))) Malformed) < 10 ^ (m + n)
+    go true true p q =
+        digits-below m n (length w) (both-below w f n (upto-digits m w p) (upto-digits n f q) (upto-length n f q)) (upto-length m w p)
+    go true false p q = one-le-pow (m + n) 10 (lit< tt)
+    go false b p q = one-le-pow (m + n) 10 (lit< tt)
+
+pub value-below : (m n : ℕ) (s : List ℕ) → valueOf (decimalOf m n s) < 10 ^ (m + n)
+unfolding decimalOf decimalAt
+value-below m n s = go (leb (m + n) 19) (ltb (positionOf (code ",") s) (length s))
+  where
+    go : (a b : Bool)
+      → valueOf (cond a (cond b (wholeAndPart m n (take (positionOf (code ",") s) s) (drop (positionOf (code ",") s + 1) s)) (wholeOnly m n s)) Malformed)
+      < 10 ^ (m + n)
+    go true true = part-below m n _ _
+    go true false = whole-below m n s
+    go false b = one-le-pow (m + n) 10 (lit< tt)

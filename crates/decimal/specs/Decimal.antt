@@ -38,3 +38,8 @@ decimalAt k m n s = cond (ltb k (length s)) (wholeAndPart m n (take k s) (drop (
 -- Nm,n for m and n of together at most 19: a value is then below 10 ^ 19, which a word of 64 bits holds
 unfoldable pub decimalOf : ℕ → ℕ → List ℕ → Decimal
 decimalOf m n s = cond (leb (m + n) 19) (decimalAt (positionOf (code ",") s) m n s) Malformed
+
+-- the value that was read; 0 where it is malformed
+abbrev pub valueOf : Decimal → ℕ
+valueOf (Value x) = x
+valueOf Malformed = 0

@@ -201,6 +201,9 @@ module _ (R : Rules) (H : Lawful R) where
   unfolding single
   single-idle c l h none = let n : ℕ = refusal c (soundLedger R l) in act-idle c l n (eqb n 0) _ (ap (λ (b : Bool). eqb (refusal c b) 0) (sym h)) refl none
 
+  pub after-size : (cs : List Call) (l : List ℕ) → soundLedger R l ≡ true → length (ledgerAfter R cs l) ≡ banks * size
+  after-size cs l h = sound-size _ (after-sound cs l h)
+
   pub isolation : (cs : List Call) (l : List ℕ) → soundLedger R l ≡ true → Isolated R cs l
   isolation cs l h =
       let after : List Call = bankAfterBank R banks cs in
@@ -211,7 +214,7 @@ module _ (R : Rules) (H : Lawful R) where
         refusals = all-refusals cs l h;
         idle = λ c none. after-last cs c l ∙ single-idle c _ (after-sound cs l h) none;
         sameLedger =
-            parts-ext size banks (H .size-positive) _ _ (sound-size _ (after-sound after l h)) (sound-size _ (after-sound cs l h))
+            parts-ext size banks (H .size-positive) _ _ (after-size after l h) (after-size cs l h)
             (λ r rh. lone-state r rh after l h
             ∙ ap (λ (ss : List Call). loneState R ss (compartment R r l)) (steps-banks banks r rh cs) ∙ sym (lone-state r rh cs l h));
         sameAnswers = λ r rh.

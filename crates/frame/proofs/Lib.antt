@@ -4,3 +4,4 @@ pub mod LeastLaws
 pub mod PartLaws
 pub mod StoreLaws
 pub mod Isolation
+pub mod Consequences

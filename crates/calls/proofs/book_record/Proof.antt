@@ -1,10 +1,10 @@
 use Prim.Native.Nat.{ℕ}
 use mathlib.Core.List.{List}
 use mathlib.Core.Path.{ap, _∙_}
-use Rattle.decimal.specs.Decimal.{decimalOf}
+use Rattle.decimal.specs.Decimal.{decimalOf, valueOf}
 use Rattle.fields.specs.Forms.{letter}
 use Rattle.booking.specs.Booking.{booked}
-use Rattle.calls.specs.Call.{valueOf, bookedAs}
+use Rattle.calls.specs.Call.{bookedAs}
 use Rattle.calls.proofs.CallLaws.{indexed}
 use borrow.Author.Needs.{needs}
 use Rattle.calls.proofs.book_record.Statement.{statement}

@@ -1,5 +1,5 @@
 use mathlib.Core.Path.{ap, sym, _∙_}
-use Rattle.calls.specs.Call.{valueOf}
+use Rattle.decimal.specs.Decimal.{valueOf}
 use borrow.Author.Needs.{needs}
 use Rattle.calls.proofs.quantity.Statement.{statement}
 use Rattle.calls.proofs.quantity.Tie as tie
