@@ -23,7 +23,7 @@ module _ (reporters currencies : List ℕ) where
   lawful = record {
     size-positive = omega arith;
     sound-length = sound-size;
-    next-sound = λ call. step-sound reporters currencies (rowOf (checkedOf reporters call)) (call .message)
+    next-sound = λ call. step-sound reporters currencies (rowOf (checkedOf reporters call)) (call .message);
   }
 
   sound : (l : List ℕ) → soundLedger l ≡ true → I.soundLedger (rules reporters currencies) l ≡ true
@@ -36,22 +36,22 @@ module _ (reporters currencies : List ℕ) where
 
   -- The first moment at which the ledger is looked into: a record that fails places 0 to 6 is answered alike whatever a sound ledger holds.
   pub sender-check-blind : (call : Call) {failed : Failures} (l m : List ℕ) → soundLedger l ≡ true → soundLedger m ≡ true
-    → checkedOf reporters call ≡ Failed failed → single (rules reporters currencies) call l .reply ≡ single (rules reporters currencies) call m .reply
+      → checkedOf reporters call ≡ Failed failed → single (rules reporters currencies) call l .reply ≡ single (rules reporters currencies) call m .reply
   sender-check-blind call l m h k e =
       let none : bankCount ≤ rowOf (checkedOf reporters call) = rw e (omega arith) in
       consequences.stranger-blind (rules reporters currencies) call l m (sound l h) (sound m k) none
 
   -- Two ledgers that agree on a bank's compartment give that bank the same answers, and leave it the same compartment, after any list of calls.
   module _ (calls : List Call) (l m : List ℕ) (h : soundLedger l ≡ true) (k : soundLedger m ≡ true) (r : ℕ) (bank : r < bankCount)
-    (agree : compartment (rules reporters currencies) r l ≡ compartment (rules reporters currencies) r m) where
+      (agree : compartment (rules reporters currencies) r l ≡ compartment (rules reporters currencies) r m) where
     pub own-answers : answersFor (rules reporters currencies) r calls l ≡ answersFor (rules reporters currencies) r calls m
     own-answers = consequences.own-answers (rules reporters currencies) lawful calls l m (sound l h) (sound m k) r bank agree
 
     pub own-compartment : compartment (rules reporters currencies) r (ledgerAfter (rules reporters currencies) calls l)
-      ≡ compartment (rules reporters currencies) r (ledgerAfter (rules reporters currencies) calls m)
+        ≡ compartment (rules reporters currencies) r (ledgerAfter (rules reporters currencies) calls m)
     own-compartment = consequences.own-compartment (rules reporters currencies) lawful calls l m (sound l h) (sound m k) r bank agree
 
   -- The calls of two banks leave the same ledger in either order.
   pub banks-commute : (a b : Call) (l : List ℕ) → soundLedger l ≡ true → (rowOf (checkedOf reporters a) ≡ rowOf (checkedOf reporters b) → ⊥)
-    → ledgerAfter (rules reporters currencies) (a ∷ b ∷ []) l ≡ ledgerAfter (rules reporters currencies) (b ∷ a ∷ []) l
+      → ledgerAfter (rules reporters currencies) (a ∷ b ∷ []) l ≡ ledgerAfter (rules reporters currencies) (b ∷ a ∷ []) l
   banks-commute a b l h differ = consequences.calls-commute (rules reporters currencies) lawful a b l (sound l h) differ

@@ -26,13 +26,13 @@ use Rattle.calls.specs.Call.{bookedAs, stepFailures, stepCompartment}
 module _ (reporters currencies : List ℕ) (row : ℕ) (s c : List ℕ) where
   -- a step without failure has none at places 7 to 60, and none at 61 to 63
   step-passed : stepFailures reporters currencies row s c .bits ≡ 0
-    → (recordFailures reporters (isMoney currencies) row (fieldOf s) .bits ≡ 0) × (bookingOf c (fieldOf s 16) (fieldOf s 39) .failed .bits ≡ 0)
+      → (recordFailures reporters (isMoney currencies) row (fieldOf s) .bits ≡ 0) × (bookingOf c (fieldOf s 16) (fieldOf s 39) .failed .bits ≡ 0)
   unfolding stepFailures failuresFrom7
   step-passed = go (eqb (recordFailures reporters (isMoney currencies) row (fieldOf s) .bits) 0) refl
     where
       go : (b : Bool) → eqb (recordFailures reporters (isMoney currencies) row (fieldOf s) .bits) 0 ≡ b
-        → cond b (bookingOf c (fieldOf s 16) (fieldOf s 39) .failed) (recordFailures reporters (isMoney currencies) row (fieldOf s)) .bits ≡ 0
-        → (recordFailures reporters (isMoney currencies) row (fieldOf s) .bits ≡ 0) × (bookingOf c (fieldOf s 16) (fieldOf s 39) .failed .bits ≡ 0)
+          → cond b (bookingOf c (fieldOf s 16) (fieldOf s 39) .failed) (recordFailures reporters (isMoney currencies) row (fieldOf s)) .bits ≡ 0
+          → (recordFailures reporters (isMoney currencies) row (fieldOf s) .bits ≡ 0) × (bookingOf c (fieldOf s 16) (fieldOf s 39) .failed .bits ≡ 0)
       go true e h = (eqb-true _ _ e, h)
       go false e h = absurd (eqb-false _ _ e h)
 
@@ -41,7 +41,7 @@ module _ (reporters currencies : List ℕ) (row : ℕ) (s c : List ℕ) where
   step-sound sound = go (eqb (stepFailures reporters currencies row s c .bits) 0) refl
     where
       go : (b : Bool) → eqb (stepFailures reporters currencies row s c .bits) 0 ≡ b
-        → soundCompartment (cond b (bookedAs (freeRow c) (namedRow c (fieldOf s 16)) s c) c) ≡ true
+          → soundCompartment (cond b (bookedAs (freeRow c) (namedRow c (fieldOf s 16)) s c) c) ≡ true
       go true e =
           let passed = step-passed (eqb-true _ _ e) in
           booked-sound (freeRow c) (fieldOf s 39) (valueOf (decimalOf 15 4 (fieldOf s 22))) (letter (fieldOf s 7)) (namedRow c (fieldOf s 16)) c sound

@@ -33,20 +33,20 @@ use Rattle.underlying.specs.Underlying.{asksUnderlying, isMissing, isTheme, pre
 use Rattle.checks.specs.Record.{clientOf, tradeOf, instrumentOf, termsBy, capacityOf, derivativeBy, underlyingOf, marksOf}
 use Rattle.checks.specs.Record.{recordTests, recordFailures}
 
-pub reporter : String → List ℕ
+unfoldable pub reporter : String → List ℕ
 reporter t = bytes t ++ replicate 8 0
 
-pub reporters : List ℕ
+unfoldable pub reporters : List ℕ
 reporters = reporter "98001AAAAATW1XXXMBONE   " ++ (reporter "98002BBBBATW1XXXMBONE   " ++ reporter "98003CCCCATW1XXXMBTWO   ")
 
-pub r1 : List ℕ
+unfoldable pub r1 : List ℕ
 r1 = bytes "B;98001;I;4711;;;B;20130903;101500;;;;;WBAH;J;;;N;S;AT0000831706;XXX;1500;1;EUR;54,7;;;K;;;;;;;;;;N;A1"
 
-pub r5 : List ℕ
+unfoldable pub r5 : List ℕ
 r5 = bytes "B;98001;I;4711;;;B;20130903;101500;;;;;WBAH;J;;;N;S;AT0000831706;XXX;1500;1;EUR;54,7;;;E;;;;;;;;;;N;A5"
 
 -- the set of a record: places 0 to 6 for the sender MBONE, and 7 to 60 for row 0
-pub set : List ℕ → ℕ
+unfoldable pub set : List ℕ → ℕ
 set s =
     addedFrom noFailure 0 (senderTests reporters (bytes "MBONE") (isWhole s) (fieldOf s 1) (fieldOf s 2)) .bits
     + recordFailures reporters (isMoney (bytes "CHFEURUSD")) 0 (fieldOf s) .bits

@@ -119,7 +119,7 @@ unfolding wholeAndPart
 part-below m n w f = go (digitsUpTo m w) (digitsUpTo n f) refl refl
   where
     go : (a b : Bool) → digitsUpTo m w ≡ a → digitsUpTo n f ≡ b
-      → valueOf (cond (a && b) (Value (number w * 10 ^ n + number f * 10 ^ (n - length f))) Malformed) < 10 ^ (m + n)
+        → valueOf (cond (a && b) (Value (number w * 10 ^ n + number f * 10 ^ (n - length f))) Malformed) < 10 ^ (m + n)
     go true true p q =
         digits-below m n (length w) (both-below w f n (upto-digits m w p) (upto-digits n f q) (upto-length n f q)) (upto-length m w p)
     go true false p q = one-le-pow (m + n) 10 (lit< tt)
@@ -130,8 +130,8 @@ unfolding decimalOf decimalAt
 value-below m n s = go (leb (m + n) 19) (ltb (positionOf (code ",") s) (length s))
   where
     go : (a b : Bool)
-      → valueOf (cond a (cond b (wholeAndPart m n (take (positionOf (code ",") s) s) (drop (positionOf (code ",") s + 1) s)) (wholeOnly m n s)) Malformed)
-      < 10 ^ (m + n)
+        → valueOf (cond a (cond b (wholeAndPart m n (take (positionOf (code ",") s) s) (drop (positionOf (code ",") s + 1) s)) (wholeOnly m n s)) Malformed)
+        < 10 ^ (m + n)
     go true true = part-below m n _ _
     go true false = whole-below m n s
     go false b = one-le-pow (m + n) 10 (lit< tt)

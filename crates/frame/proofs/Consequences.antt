@@ -17,7 +17,7 @@ module _ (R : Rules) where
 
   -- a call whose record passes for no bank is answered alike on any two sound ledgers
   pub stranger-blind : (c : Call) (l m : List ℕ) → soundLedger R l ≡ true → soundLedger R m ≡ true → banks ≤ bank c
-    → single R c l .reply ≡ single R c m .reply
+      → single R c l .reply ≡ single R c m .reply
   unfolding single
   stranger-blind c l m h k none = rw (h, k, le-ltb (bank c) banks none) (same (refusal c true) (eqb (refusal c true) 0))
     where
@@ -30,7 +30,7 @@ module _ (R : Rules) (H : Lawful R) where
 
   -- a bank's answers and its compartment depend on no other compartment of the ledger
   module _ (cs : List Call) (l m : List ℕ) (h : soundLedger R l ≡ true) (k : soundLedger R m ≡ true) (r : ℕ) (rh : r < banks)
-    (agree : compartment R r l ≡ compartment R r m) where
+      (agree : compartment R r l ≡ compartment R r m) where
     pub own-answers : answersFor R r cs l ≡ answersFor R r cs m
     own-answers =
         isolation R H cs l h .answers r rh ∙ ap (loneAnswers R (steps R r cs)) agree ∙ sym (isolation R H cs m k .answers r rh)
@@ -51,7 +51,7 @@ module _ (R : Rules) (H : Lawful R) where
       go false false p q = refl
 
   pub calls-commute : (c d : Call) (l : List ℕ) → soundLedger R l ≡ true → (bank c ≡ bank d → ⊥)
-    → ledgerAfter R (c ∷ d ∷ []) l ≡ ledgerAfter R (d ∷ c ∷ []) l
+      → ledgerAfter R (c ∷ d ∷ []) l ≡ ledgerAfter R (d ∷ c ∷ []) l
   calls-commute c d l h differ =
       parts-ext size banks (H .size-positive) _ _ (after-size R H (c ∷ d ∷ []) l h) (after-size R H (d ∷ c ∷ []) l h)
       (λ r rh. isolation R H (c ∷ d ∷ []) l h .states r rh ∙ ap (λ (ss : List Call). loneState R ss (compartment R r l)) (step-swap r c d differ)
