@@ -192,7 +192,9 @@ module _ (reporters currencies : List ℕ) (call : Call) (l : List ℕ) where
         a ≡ stepAnswer reporters currencies row (call .message) lent → d ≡ stepCompartment reporters currencies row (call .message) lent
         → record {
           reply = I.answer (answerBytes a);
-          ledger = take (row * compartmentSize) l ++ (d ++ drop (row * compartmentSize + compartmentSize - row * compartmentSize) (drop (row * compartmentSize) l));
+          ledger =
+              take (row * compartmentSize) l
+              ++ (d ++ drop (row * compartmentSize + compartmentSize - row * compartmentSize) (drop (row * compartmentSize) l));
         } ≡ I.single (rules reporters currencies) call l
     call-step {row} {a} {d} p h long b m =
         let inside : row * compartmentSize + compartmentSize ≤ length l = omega arith in

@@ -7,7 +7,8 @@ use mathlib.Core.List.{List, [], _∷_}
 use native.Mathlib.Decide.{ℕ-discrete}
 use lib.Dec.{eqb, ltb}
 use borrow.Author.Tests.{eqb-true, le-ltb}
-use Rattle.frame.specs.Isolation.{Rules, Reply, Outcome, soundLedger, compartment, act, single, ledgerAfter, answersFor, isStep, steps, loneAnswers, loneState}
+use Rattle.frame.specs.Isolation.{Rules, Reply, Outcome, soundLedger, compartment, act, single, ledgerAfter, answersFor}
+use Rattle.frame.specs.Isolation.{isStep, steps, loneAnswers, loneState}
 use Rattle.frame.proofs.BoolLaws.{and-right}
 use Rattle.frame.proofs.Isolation.{Lawful, isolation, after-size}
 use Rattle.frame.proofs.PartLaws.{parts-ext}
@@ -43,7 +44,8 @@ module _ (R : Rules) (H : Lawful R) where
   step-swap : (r : ℕ) (c d : Call) → (bank c ≡ bank d → ⊥) → steps R r (c ∷ d ∷ []) ≡ steps R r (d ∷ c ∷ [])
   step-swap r c d differ = go (isStep R r c) (isStep R r d) refl refl
     where
-      go : (x y : Bool) → isStep R r c ≡ x → isStep R r d ≡ y → cond x (c ∷ cond y (d ∷ []) []) (cond y (d ∷ []) []) ≡ cond y (d ∷ cond x (c ∷ []) []) (cond x (c ∷ []) [])
+      go : (x y : Bool) → isStep R r c ≡ x → isStep R r d ≡ y
+          → cond x (c ∷ cond y (d ∷ []) []) (cond y (d ∷ []) []) ≡ cond y (d ∷ cond x (c ∷ []) []) (cond x (c ∷ []) [])
       go true true p q =
           absurd (differ (eqb-true _ _ (and-right (eqb (refusal c true) 0) _ p) ∙ sym (eqb-true _ _ (and-right (eqb (refusal d true) 0) _ q))))
       go true false p q = refl

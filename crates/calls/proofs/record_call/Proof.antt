@@ -14,17 +14,23 @@ same-length c = search needs
 returns : tie.Need-returns
 returns c = call-refused _ _ _ _ (c .before .refusal .ensures) (c .if1 .taken)
 
+-- what the call is lent, seen from after the sender check
+abbrev start : tie.After-check → tie.Start
+start c = c .before .before .before .before .before .before .before .before .before .before .before .before .before .before .before .before
+
 -- after the sender check: what it has found of the call's record, and that the call is not refused
-checked : (c : tie.After-check) → let a = c .before .before .before .before .before .before .before .before .before .before .before .before .before .before .before .before .args in
+checked : (c : tie.After-check) → let a = start c .args in
     c .check .result ≡ checkedOf (a .reporters .now) (called (a .from .now) (a .s .now))
 checked c =
     let whole = c .before .before .before .before .before in
     checked-same _ _ _ _ (whole .before .before .index .ensures) (whole .is-whole .ensures) (c .before .before .before .part .ensures .bytes)
     (c .before .part2 .ensures .bytes) (c .check .ensures)
 
-ok : (c : tie.After-check) → let a = c .before .before .before .before .before .before .before .before .before .before .before .before .before .before .before .before .args in
+ok : (c : tie.After-check) → let a = start c .args in
     Accepted (a .reporters .now) (a .currencies .now) (called (a .from .now) (a .s .now)) (soundLedger (a .book .now))
-ok c = let tested = c .before .before .before .before .before .before .before .before in accepted _ _ _ _ (sym (tested .before .refusal .ensures) ∙ tested .if1 .left)
+ok c =
+    let tested = c .before .before .before .before .before .before .before .before in
+    accepted _ _ _ _ (sym (tested .before .refusal .ensures) ∙ tested .if1 .left)
 
 enum-known-checked : tie.Need-enum-known-checked
 enum-known-checked c = search needs

@@ -1,0 +1,43 @@
+use borrow.Author.Needs.{needs}
+use Prim.Native.Nat.{_≤_, _-_}
+use lib.ListN.{length}
+use Rattle.replay.proofs.refused.checksum.Statement.{statement}
+use Rattle.replay.proofs.refused.checksum.Tie as tie
+
+abbrev Inv-loop : tie.InvT-loop
+Inv-loop s sum₀ i₀ sum i = i ≤ length s
+
+abbrev μ-loop : tie.MeasureT-loop
+μ-loop s sum₀ i₀ sum i = length s - i
+
+loop-holds : tie.Need-loop-holds Inv-loop μ-loop
+loop-holds c = search needs
+
+shared-slice-read-mixed : tie.Need-shared-slice-read-mixed Inv-loop μ-loop
+shared-slice-read-mixed c = search needs
+
+add-i : tie.Need-add-i Inv-loop μ-loop
+add-i c = search needs
+
+loop-less : tie.Need-loop-less Inv-loop μ-loop
+loop-less c = search needs
+
+loop-again : tie.Need-loop-again Inv-loop μ-loop
+loop-again c = search needs
+
+returns : tie.Need-returns Inv-loop μ-loop
+returns c = search needs
+
+pub checksum-spec : {M : Type 1} → statement M
+checksum-spec =
+    tie.close
+    (tie.spec
+    Inv-loop
+    μ-loop
+    loop-holds
+    shared-slice-read-mixed
+    (λ c κs. tt)
+    add-i
+    loop-less
+    loop-again
+    returns)

@@ -1,0 +1,69 @@
+// The worked records, called one by one on a ledger.
+use answer::Answer;
+use calls::Reply;
+use libc::STDOUT_FILENO;
+
+// Prints the sixteen bytes of an answer.
+fn print_answer(a: Answer) {
+    let mut bytes = [0u8; 16];
+    answer::write(a, &mut bytes, 0);
+    crate::hex::print(&bytes);
+}
+
+// Prints the bytes of an answer, or the number of a refusal.
+fn print_reply(reply: Reply) {
+    match reply {
+        Reply::Answered(a) => print_answer(a),
+        Reply::Refused(n) => {
+            io::write_all(STDOUT_FILENO, b"refused ");
+            io::print_decimal(STDOUT_FILENO, n as u64);
+        }
+    }
+    io::write_all(STDOUT_FILENO, b"\n");
+}
+
+// Prints row 0 or 1 of compartment 0.
+fn print_row(book: &[u8], second: bool) {
+    if second {
+        io::write_all(STDOUT_FILENO, b"row 1 ");
+        crate::hex::print(text::front(text::rest(book, 32), 32));
+    } else {
+        io::write_all(STDOUT_FILENO, b"row 0 ");
+        crate::hex::print(text::front(book, 32));
+    }
+    io::write_all(STDOUT_FILENO, b"\n");
+}
+
+// Calls record k, prints what it answers, and row 0 behind the first.
+fn call<'a>(k: usize, reporters: &'a [u8], book: &mut [u8], record: &'a [u8]) {
+    io::write_all(STDOUT_FILENO, b"record ");
+    io::print_decimal(STDOUT_FILENO, k as u64);
+    io::write_all(STDOUT_FILENO, b" ");
+    print_reply(calls::record_call(reporters, b"CHFEURUSD", book, b"MBONE", record));
+    if k == 1 {
+        print_row(book, false);
+    }
+}
+
+// Calls the records of a file, one a line.
+fn records<'a>(reporters: &'a [u8], book: &mut [u8], file: &'a [u8]) {
+    let mut k = 0;
+    let mut at = 0;
+    while at < file.len() {
+        let rest = &file[at..];
+        let end = text::position(rest, b'\n');
+        if rest.len() <= end {
+            return;
+        }
+        k += 1;
+        call(k, reporters, book, text::front(rest, end));
+        at = at + end + 1;
+    }
+}
+
+// Calls the records of a file, and prints rows 0 and 1 behind the last.
+pub fn run<'a>(reporters: &'a [u8], book: &mut [u8], file: &'a [u8]) {
+    records(reporters, book, file);
+    print_row(book, false);
+    print_row(book, true);
+}
