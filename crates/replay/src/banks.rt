@@ -2,25 +2,25 @@
 use crate::piece::append;
 use crate::piece::append_digits;
 
-pub const BANKS: usize = 16;
+pub(crate) const BANKS: usize = 16;
 
 const REPORTER_SIZE: usize = 32;
 
 // Writes the code of a bank.
-pub fn append_code(out: &mut [u8], at: usize, bank: usize) -> usize {
+pub(crate) fn append_code(out: &mut [u8], at: usize, bank: usize) -> usize {
     let end = append(out, at, b"100");
     append_digits(out, end, bank)
 }
 
 // Writes the address of a bank.
-pub fn append_address(out: &mut [u8], at: usize, bank: usize) -> usize {
+pub(crate) fn append_address(out: &mut [u8], at: usize, bank: usize) -> usize {
     let name = append(out, at, b"AAAAAT");
     let end = append_digits(out, name, bank);
     append(out, end, b"XXX")
 }
 
 // Writes the mailbox of a bank.
-pub fn append_mailbox(out: &mut [u8], at: usize, bank: usize) -> usize {
+pub(crate) fn append_mailbox(out: &mut [u8], at: usize, bank: usize) -> usize {
     let end = append(out, at, b"BOX");
     if bank == 1 {
         return append_digits(out, end, 0);
@@ -37,7 +37,7 @@ fn write_row(table: &mut [u8], bank: usize) {
 }
 
 // Writes the reporters table.
-pub fn write_table(table: &mut [u8]) {
+pub(crate) fn write_table(table: &mut [u8]) {
     let mut bank = 0;
     while bank < BANKS {
         write_row(table, bank);

@@ -1,7 +1,7 @@
 // Calls that are drawn at random.
 
 // What is wrong with a call: its record fails a check, is a stranger's, or the call is refused.
-pub enum Flaw {
+pub(crate) enum Flaw {
     Nothing,
     Currency,
     Mailbox,
@@ -10,7 +10,7 @@ pub enum Flaw {
     Apostrophe,
 }
 
-pub struct Call {
+pub(crate) struct Call {
     pub flaw: Flaw,
     pub bank: usize,
     pub by_address: bool,
@@ -24,10 +24,10 @@ pub struct Call {
 }
 
 // The first state of the generator.
-pub const SEED: u64 = 88172645463325252;
+pub(crate) const SEED: u64 = 88172645463325252;
 
 // The next state of the generator (xorshift).
-pub fn next(seed: u64) -> u64 {
+pub(crate) fn next(seed: u64) -> u64 {
     let a = seed ^ (seed << 13);
     let b = a ^ (a >> 7);
     b ^ (b << 17)
@@ -49,7 +49,7 @@ fn lesser(a: u64, b: u64) -> u64 {
 }
 
 // The call of a state, each part from bits of its own. Banks of lower rows call more often.
-pub fn call_of(seed: u64) -> Call {
+pub(crate) fn call_of(seed: u64) -> Call {
     Call {
         flaw: flaw_of((seed >> 8) % 16),
         bank: lesser(seed % 16, (seed >> 4) % 16) as usize,
@@ -64,7 +64,7 @@ pub fn call_of(seed: u64) -> Call {
 }
 
 // Whether a call's record passes the sender check for a bank, in a call that is not refused.
-pub fn passes_for(call: Call, bank: usize) -> bool {
+pub(crate) fn passes_for(call: Call, bank: usize) -> bool {
     let flaw = call.flaw;
     match flaw {
         Flaw::Nothing => call.bank == bank,

@@ -200,7 +200,7 @@ fn print_totals(answers: &[u8]) {
 }
 
 // Makes the list, and compares each bank with its lone run.
-pub fn run() {
+pub(crate) fn run() {
     let mut table = [0u8; 512];
     let mut book = [0u8; 32768];
     let mut answers = [0u8; 65536];

@@ -9,7 +9,7 @@ use crate::piece::append;
 use crate::piece::append_digits;
 
 // Writes the sender, and answers its length.
-pub fn write_sender(out: &mut [u8], call: Call) -> usize {
+pub(crate) fn write_sender(out: &mut [u8], call: Call) -> usize {
     let flaw = call.flaw;
     match flaw {
         Flaw::Sender => append(out, 0, b"box"),
@@ -90,7 +90,7 @@ fn append_terms(out: &mut [u8], at: usize, call: Call) -> usize {
 }
 
 // Writes the record, and answers its length.
-pub fn write_record(out: &mut [u8], call: Call) -> usize {
+pub(crate) fn write_record(out: &mut [u8], call: Call) -> usize {
     let trade = write_trade(out, call);
     let named = append_named(out, trade, call);
     let terms = append_terms(out, named, call);

@@ -1,7 +1,7 @@
 // Text that is put together piece by piece.
 
 // Writes a piece into out from a place on, as far as there is room, and answers where it ends.
-pub fn append(out: &mut [u8], at: usize, piece: &[u8]) -> usize {
+pub(crate) fn append(out: &mut [u8], at: usize, piece: &[u8]) -> usize {
     let mut end = at;
     let mut i = 0;
     while i < piece.len() {
@@ -20,7 +20,7 @@ fn digit(n: usize) -> u8 {
 }
 
 // Writes the last two decimal digits of n.
-pub fn append_digits(out: &mut [u8], at: usize, n: usize) -> usize {
+pub(crate) fn append_digits(out: &mut [u8], at: usize, n: usize) -> usize {
     let digits = [digit(n / 10), digit(n)];
     append(out, at, &digits)
 }

@@ -108,7 +108,7 @@ fn records(reporters: &[u8], book: &mut [u8]) {
 }
 
 // All these calls. The record that they share has no fault.
-pub fn run(reporters: &[u8], book: &mut [u8]) {
+pub(crate) fn run(reporters: &[u8], book: &mut [u8]) {
     let record =
         b"B;98001;I;4711;;;B;20130903;101500;;;;;WBAH;J;;;N;S;AT0000831706;XXX;1500;1;EUR;54,7;;;K;;;;;;;;;;N;C1";
     lent(reporters, book, record);

@@ -62,7 +62,7 @@ fn records<'a>(reporters: &'a [u8], book: &mut [u8], file: &'a [u8]) {
 }
 
 // Calls the records of a file, and prints rows 0 and 1 behind the last.
-pub fn run<'a>(reporters: &'a [u8], book: &mut [u8], file: &'a [u8]) {
+pub(crate) fn run<'a>(reporters: &'a [u8], book: &mut [u8], file: &'a [u8]) {
     records(reporters, book, file);
     print_row(book, false);
     print_row(book, true);

@@ -22,10 +22,10 @@ fn print(line: &[u8], right: bool) {
     }
 }
 
-pub fn print_isin(line: &[u8]) {
+pub(crate) fn print_isin(line: &[u8]) {
     print(line, identifier::is_isin(value(line)));
 }
 
-pub fn print_swift(line: &[u8]) {
+pub(crate) fn print_swift(line: &[u8]) {
     print(line, identifier::is_swift(value(line)));
 }

@@ -81,7 +81,7 @@ fn verdict(ok: bool, refusal: &[u8]) {
 }
 
 // The line's kind and name, and whether the object is as it should be, or by which number a call is refused.
-pub fn print(line: &[u8]) {
+pub(crate) fn print(line: &[u8]) {
     let mut room = [0u8; 32769];
     let kind = word(line);
     let named = behind(line);

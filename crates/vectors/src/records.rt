@@ -38,7 +38,7 @@ fn print_code(code: u16) {
 }
 
 // What the line aims at, the set, its first code and its count.
-pub fn print<'a>(line: &'a [u8], reporters: &'a [u8], currencies: &'a [u8]) {
+pub(crate) fn print<'a>(line: &'a [u8], reporters: &'a [u8], currencies: &'a [u8]) {
     let sent = behind(line);
     let failed = failures_of(reporters, currencies, word(sent), behind(sent));
     io::write_all(STDOUT_FILENO, word(line));

@@ -1,12 +1,12 @@
 // The words of a line, which single spaces part.
 
 // The text before the first space.
-pub fn word(s: &[u8]) -> &[u8] {
+pub(crate) fn word(s: &[u8]) -> &[u8] {
     text::front(s, text::position(s, b' '))
 }
 
 // The text behind the first space.
-pub fn behind(s: &[u8]) -> &[u8] {
+pub(crate) fn behind(s: &[u8]) -> &[u8] {
     let n = text::position(s, b' ');
     if n < s.len() {
         text::rest(s, n + 1)
