@@ -10,13 +10,12 @@ use mathlib.Core.Logic.{_≢_}
 use lib.Dec.{eqb, leb, ltb}
 use lib.ListN.{length}
 use borrow.Author.Tests.{eqb-true, eq-eqb, ltb-true, ltb-false, lt-ltb, le-ltb, leb-true, le-leb}
-use Rattle.frame.specs.Every.{least}
 use Rattle.frame.specs.Parts.{put}
 use Rattle.frame.proofs.BoolLaws.{and-left, and-right, and-false}
 use Rattle.frame.proofs.LeastLaws.{least-is, least-same}
 use Rattle.frame.proofs.PartLaws.{part-put, part-put-other, put-length}
 use Rattle.text.specs.Bytes.{same}
-use Rattle.text.proofs.ByteLaws.{same-refl, same-true, same-sym}
+use Rattle.text.proofs.ByteLaws.{same-refl, same-sym}
 use Rattle.identifier.specs.Identifier.{nameUpTo}
 use Rattle.ledger.specs.Row.{rowSize, free, live, cancelled, cancellation, numberRoom, largestQuantity, state, filled, number, isSide, rowForm}
 use Rattle.ledger.specs.Sound.{rowCount, compartmentSize, rowsOf, soundCompartment}

@@ -19,7 +19,7 @@ use Rattle.identifier.specs.Identifier.{nameUpTo}
 use Rattle.failures.specs.declared.Failures.{Failures}
 use Rattle.fields.specs.Fields.{isWhole, fieldOf, fieldBy, stopsOf, isWholeIndex}
 use Rattle.fields.proofs.FieldLaws.{field-by, whole-index}
-use Rattle.tables.specs.Reporters.{reportersOk, reporterCount}
+use Rattle.tables.specs.Reporters.{reportersOk}
 use Rattle.tables.specs.Currencies.{currenciesOk, isMoney, foundMoney}
 use Rattle.tables.proofs.CurrencyLaws.{found-money}
 use Rattle.tables.proofs.ReporterLaws.{rows-below}

@@ -19,7 +19,6 @@ use Rattle.fields.specs.Fields.{semicolonsFrom, isWhole, fieldStart, fieldEnd, 
 use Rattle.fields.specs.Forms.{letter}
 use Rattle.tables.specs.Reporters.{hasCode, hasAddress}
 use Rattle.tables.specs.Currencies.{isSpecial, isMoney}
-use Rattle.ledger.specs.Row.{rowSize}
 use Rattle.ledger.specs.Sound.{compartmentSize, rowsOf}
 use Rattle.ledger.specs.Lookup.{freeRow, rowByNumber, liveRow}
 use Rattle.booking.specs.Booking.{padded, newRow, entered, canBook, booked}

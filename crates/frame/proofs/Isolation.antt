@@ -4,15 +4,14 @@ use Prim.Native.Nat.{ℕ, zero, suc, _+_, _*_, _≤_, _<_}
 use native.Mathlib.Nat.{not-suc-le-zero}
 use native.Mathlib.Decide.{ℕ-discrete}
 use native.Mathlib.Omega.{arith}
-use mathlib.Core.Path.{_≡_, refl, ap, subst, sym, _∙_}
-use mathlib.Core.Bool.{Bool, true, false, _&&_, cond, false≢true, true≢false}
+use mathlib.Core.Path.{_≡_, refl, ap, sym, _∙_}
+use mathlib.Core.Bool.{Bool, true, false, _&&_, cond, false≢true}
 use mathlib.Core.List.{List, [], _∷_, _++_, append-nil, map}
 use mathlib.Core.Logic.{_≢_}
 use lib.Dec.{eqb, ltb}
 use lib.ListN.{length}
 use borrow.Author.Tests.{eqb-true, eqb-false, eq-eqb, ne-eqb, ltb-true, ltb-false, lt-ltb, le-ltb}
 use Rattle.frame.specs.Parts.{part, put}
-use Rattle.frame.specs.Every.{every}
 use Rattle.frame.specs.Isolation.{Rules, Reply, refused, answer, Outcome, refusedBy, soundLedger, compartment, act, single, replies, ledgerAfter}
 use Rattle.frame.specs.Isolation.{ownReplies, answersFor, isStep, steps, loneAnswers, loneState, bankAfterBank, Isolated}
 use Rattle.frame.proofs.BoolLaws.{and-left, and-right, and-intro}

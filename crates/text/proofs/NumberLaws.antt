@@ -11,7 +11,7 @@ use borrow.Author.Tests.{le-leb, lt-leb, leb-true, eq-eqb, ne-eqb, eqb-true, eqb
 use lib.Arith.{digits-lt}
 use lib.Dec.{lit<, leb, eqb}
 use lib.ListN.{length, getD, take, drop, length-append, length-take, length-drop}
-use lib.Seq.{drop-cons, drop-length, getD-take, getD-drop, take-at, drop-at, drop-drop, length-take-le}
+use lib.Seq.{drop-cons, drop-length, take-at, drop-at, drop-drop, length-take-le}
 use Rattle.text.specs.Class.{isZero}
 use Rattle.text.specs.Bytes.{all}
 use Rattle.text.proofs.ByteLaws.{all-split}

@@ -3,17 +3,11 @@ use mathlib.Core.Path.{refl}
 use Rattle.calls.specs.Call.{recordForm}
 use Rattle.calls.proofs.is_record.Statement.{statement}
 use Rattle.calls.proofs.is_record.Tie as tie
-use Rattle.calls.proofs.is_record.Reads as reads
-use Rattle.calls.proofs.is_record.Lts as lts
-use Rattle.text.proofs.all.Reads as all-reads
 
--- src/lib.rt:41:32
--- src/lib.rt:38:1
 returns : tie.Need-returns
 unfolding recordForm
 returns c = rw (le-leb _ _ (c .before .if1 .taken)) (c .all .ensures)
 
--- src/lib.rt:38:1
 returns-2 : tie.Need-returns-2
 unfolding recordForm
 returns-2 c = rw (lt-leb _ _ (c .if1 .left)) refl

@@ -3,24 +3,16 @@ use Rattle.decimal.specs.Decimal.{valueOf}
 use borrow.Author.Needs.{needs}
 use Rattle.calls.proofs.quantity.Statement.{statement}
 use Rattle.calls.proofs.quantity.Tie as tie
-use Rattle.calls.proofs.quantity.Reads as reads
-use Rattle.calls.proofs.quantity.Lts as lts
-use Rattle.decimal.proofs.read.Reads as read-reads
 
--- src/lib.rt:91:11
--- src/lib.rt:92:24
 enum-known-q : tie.Need-enum-known-q
 enum-known-q c = search needs
 
--- src/lib.rt:93:31
 enum-told : tie.Need-enum-told
 enum-told c = search needs
 
--- src/lib.rt:88:1
 returns : tie.Need-returns
 returns c = ap valueOf (sym (c .before .q .given .1) ∙ (c .before .before .before .read .ensures))
 
--- src/lib.rt:88:1
 returns-2 : tie.Need-returns-2
 returns-2 c = ap valueOf (sym (c .enum-told .given .1) ∙ (c .before .before .read .ensures))
 

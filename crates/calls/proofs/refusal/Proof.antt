@@ -3,29 +3,16 @@ use borrow.Author.Tests.{not-true, not-false}
 use Rattle.calls.proofs.CallLaws.{refused-2, refused-3, refused-4, refused-13, refused-14, accepted-call}
 use Rattle.calls.proofs.refusal.Statement.{statement}
 use Rattle.calls.proofs.refusal.Tie as tie
-use Rattle.calls.proofs.refusal.Reads as reads
-use Rattle.calls.proofs.refusal.Lts as lts
-use Rattle.calls.proofs.is_record.Reads as is-record-reads
-use Rattle.identifier.proofs.is_name.Reads as is-name-reads
-use Rattle.ledger.proofs.sound_ledger.Reads as sound-ledger-reads
-use Rattle.tables.proofs.currencies_ok.Reads as currencies-ok-reads
-use Rattle.tables.proofs.reporters_ok.Reads as reporters-ok-reads
 
--- src/lib.rt:54:9
--- src/lib.rt:55:9
 returns : tie.Need-returns
 returns c = refused-2 _ _ _ _ (sym (c .before .reporters-ok .ensures) ∙ not-true _ (c .if1 .taken))
 
--- src/lib.rt:57:9
--- src/lib.rt:58:9
 returns-2 : tie.Need-returns-2
 returns-2 c =
     let back3 = c .before .before .before in
     refused-3 _ _ _ _ (sym (back3 .reporters-ok .ensures) ∙ not-false _ (c .before .before .if1 .left))
     (sym (c .before .currencies-ok .ensures) ∙ not-true _ (c .if2 .taken))
 
--- src/lib.rt:60:9
--- src/lib.rt:61:9
 returns-3 : tie.Need-returns-3
 returns-3 c =
     let back3 = c .before .before .before in
@@ -35,8 +22,6 @@ returns-3 c =
     (sym (back3 .currencies-ok .ensures) ∙ not-false _ (c .before .before .if2 .left))
     (sym (c .before .sound-ledger .ensures) ∙ not-true _ (c .if3 .taken))
 
--- src/lib.rt:63:9
--- src/lib.rt:64:9
 returns-4 : tie.Need-returns-4
 returns-4 c =
     let back3 = c .before .before .before in
@@ -48,8 +33,6 @@ returns-4 c =
     (sym (back5 .currencies-ok .ensures) ∙ not-false _ (back4 .if2 .left))
     (sym (back3 .sound-ledger .ensures) ∙ not-false _ (c .before .before .if3 .left)) (sym (c .before .is-name .ensures) ∙ not-true _ (c .if4 .taken))
 
--- src/lib.rt:66:9
--- src/lib.rt:67:9
 returns-5 : tie.Need-returns-5
 returns-5 c =
     let back3 = c .before .before .before in
@@ -63,7 +46,6 @@ returns-5 c =
     (sym (back7 .currencies-ok .ensures) ∙ not-false _ (back6 .if2 .left)) (sym (back5 .sound-ledger .ensures) ∙ not-false _ (back4 .if3 .left))
     (sym (back3 .is-name .ensures) ∙ not-false _ (c .before .before .if4 .left)) (sym (c .before .is-record .ensures) ∙ not-true _ (c .if5 .taken))
 
--- src/lib.rt:45:1
 returns-6 : tie.Need-returns-6
 returns-6 c =
     let back3 = c .before .before .before in
