@@ -8,11 +8,12 @@ use native.Mathlib.Nat.{not-suc-le-zero, le-of-suc-le-suc, le-of-eq}
 use native.Mathlib.Numerals.{add-one}
 use native.Mathlib.Omega.{arith}
 use borrow.Author.Tests.{eq-eqb, ne-eqb, eqb-true, eqb-false, leb-true}
+use lib.Bits.{bitOr, or-zero-l, or-add-and, and-le-r}
 use lib.Dec.{eqb, leb}
 use lib.ListN.{length, getD, take, drop, length-drop, drop-of-length-le}
 use lib.Seq.{drop-cons, take-all}
-use Rattle.frame.proofs.BoolLaws.{and-left, and-right, and-intro, and-false, and-assoc}
-use Rattle.text.specs.Class.{isDigit}
+use Rattle.frame.proofs.BoolLaws.{and-left, and-right, and-intro, and-false, and-true, and-assoc}
+use Rattle.text.specs.Class.{isDigit, isZero}
 use Rattle.text.specs.Bytes.{all, same, positionOf, countOf}
 
 -- the laws that a loop over the list uses. What is still to be found out at place i is the test of the rest, from i
@@ -97,6 +98,23 @@ module _ (b : ℕ) (s : List ℕ) (i n : ℕ) (e : countOf b s ≡ n + countOf b
   count-end h =
       let q : countOf b (drop i s) ≡ 0 = rw (drop-of-length-le s h) refl in
       omega (arith, q)
+
+-- bits put together are none where each is none
+or-none : (a b : ℕ) → eqb (bitOr a b) 0 ≡ eqb a 0 && eqb b 0
+or-none a b = go (eqb a 0) refl
+  where
+    go : (x : Bool) → eqb a 0 ≡ x → eqb (bitOr a b) 0 ≡ x && eqb b 0
+    go true e = rw (eqb-true a 0 e, or-zero-l b) refl
+    go false e = ne-eqb (bitOr a b) 0 (λ z. eqb-false a 0 e (omega (arith, z, or-add-and a b, and-le-r a b)))
+
+module _ (s : List ℕ) (i bits : ℕ) (e : all isZero s ≡ eqb bits 0 && all isZero (drop i s)) where
+  pub zero-go : i < length s → all isZero s ≡ eqb (bitOr bits (getD s i 0)) 0 && all isZero (drop (i + 1) s)
+  unfolding all
+  zero-go h = e ∙ rw (add-one, drop-cons s i 0, or-none bits (getD s i 0)) (and-assoc (eqb bits 0) _ _)
+
+  pub zero-end : length s ≤ i → eqb bits 0 ≡ all isZero s
+  unfolding all
+  zero-end h = sym (e ∙ rw (drop-of-length-le s h) (and-true (eqb bits 0)))
 
 -- what every byte passes, the byte at i passes
 pub all-get : (p : ℕ → Bool) (s : List ℕ) (i : ℕ) → all p s ≡ true → i < length s → p (getD s i 0) ≡ true

@@ -109,27 +109,3 @@ unfolding numberAt
 number-put n at x s h b =
     let l : at + n ≤ length (numberPut n at x s) = rw put-length h in
     rw (le-leb _ _ l) (ap littleEndian (put-bytes n at x s h) ∙ little-low n x b)
-
--- a number is 0 where its bytes are all zero; what a loop over the words of a list knows
-little-zero : (xs : List ℕ) → all isZero xs ≡ eqb (littleEndian xs) 0
-unfolding all littleEndian
-little-zero [] = refl
-little-zero (x ∷ xs) = go (eqb x 0) (eqb (littleEndian xs) 0) refl refl (little-zero xs)
-  where
-    go : (a b : Bool) → eqb x 0 ≡ a → eqb (littleEndian xs) 0 ≡ b → all isZero xs ≡ eqb (littleEndian xs) 0
-        → a && all isZero xs ≡ eqb (x + 256 * littleEndian xs) 0
-    go true true p q e = rw (e, q) (sym (eq-eqb (x + 256 * littleEndian xs) 0 (omega (arith, eqb-true x 0 p, eqb-true (littleEndian xs) 0 q))))
-    go true false p q e =
-        rw (e, q) (sym (ne-eqb (x + 256 * littleEndian xs) 0 (λ z. eqb-false (littleEndian xs) 0 q (omega (arith, z)))))
-    go false b p q e = sym (ne-eqb (x + 256 * littleEndian xs) 0 (λ z. eqb-false x 0 p (omega (arith, z))))
-
-module _ (s : List ℕ) (a : ℕ) {r : ℕ} (e : all isZero s ≡ all isZero (drop a s)) (h : a + 8 ≤ length s) (q : r ≡ numberAt 8 a s) where
-  word-zero : all isZero (take 8 (drop a s)) ≡ eqb r 0
-  unfolding numberAt
-  word-zero = little-zero (take 8 (drop a s)) ∙ rw (q, le-leb _ _ h) refl
-
-  pub zero-go : r ≡ 0 → all isZero s ≡ all isZero (drop (a + 8) s)
-  zero-go z = e ∙ all-split isZero 8 (drop a s) ∙ rw (word-zero, z, drop-drop) refl
-
-  pub zero-stop : (r ≡ 0 → ⊥) → false ≡ all isZero s
-  zero-stop n = sym (e ∙ all-split isZero 8 (drop a s) ∙ rw (word-zero, ne-eqb r 0 n) refl)

@@ -221,19 +221,17 @@ pub fn read_u64(s: &[u8], at: usize) -> u64
     number_of(&s[at..at + 8])
 }
 
-// Whether the bytes of s are all zero, eight at a time.
+// Whether the bytes of s are all zero: their bits put together are none.
 pub fn is_zero(s: &[u8]) -> bool
     ensures { λ r. ⌜ r ≡ allOf isZero (now (s .entry)) ⌝ }
 {
-    let words = s.len() / 8;
-    let mut k = 0;
-    while k < words {
-        if read_u64(s, k * 8) != 0 {
-            return false;
-        }
-        k += 1;
+    let mut bits: u8 = 0;
+    let mut i = 0;
+    while i < s.len() {
+        bits = bits | s[i];
+        i += 1;
     }
-    all(Class::Zero, rest(s, words * 8))
+    bits == 0
 }
 
 // Writes x into the two bytes of s from a place on, the lowest first; nothing where they are not both there.

@@ -1,0 +1,187 @@
+-- Laws of an opened report: its parts lie one after another within the file, its sender is a name, and its records are as many as it says.
+-- Assumes nothing.
+use Prim.Native.Nat.{ℕ, _+_, _-_, _<_, _≤_, zero-le}
+use mathlib.Core.Bool.{Bool, true, false, _&&_, cond}
+use mathlib.Core.List.{List, [], _∷_}
+use mathlib.Core.Path.{_≡_, refl, ap, sym, subst, _∙_}
+use native.Mathlib.Omega.{arith}
+use borrow.Author.Tests.{le-leb, leb-true, leb-false, eqb-true, ltb-false}
+use lib.Dec.{eqb, leb, ltb}
+use lib.ListN.{length, take, drop, length-drop}
+use lib.Seq.{length-take-le}
+use Rattle.frame.proofs.BoolLaws.{and-intro}
+use Rattle.text.specs.declared.Class.the-variants.{CapitalOrDigit}
+use Rattle.text.specs.Bytes.{same}
+use Rattle.text.specs.Text.{bytes}
+use Rattle.identifier.specs.Identifier.{nameUpTo}
+use Rattle.calendar.specs.Calendar.{realDate, realMinute}
+use Rattle.envelope.specs.declared.Piece.the-variants.{EndsAt, Missing}
+use Rattle.envelope.specs.declared.Parts.{Parts}
+use Rattle.envelope.specs.declared.Head.{Head}
+use Rattle.envelope.specs.declared.Head.the-variants.{Read, Unread}
+use Rattle.envelope.specs.declared.Span.{Span}
+use Rattle.envelope.specs.declared.Body.{Body}
+use Rattle.envelope.specs.declared.Body.the-variants.{Counted, Broken}
+use Rattle.envelope.specs.declared.Layout.{Layout}
+use Rattle.envelope.specs.declared.Opened.{Opened}
+use Rattle.envelope.specs.declared.Opened.the-variants.{Report, Refused}
+use Rattle.envelope.specs.Pieces.{between, runOf, textEnd, partThen}
+use Rattle.envelope.specs.Body.{Records, broken, records, crlf, recordsOf, apostropheFrom, counted, linesAt, bodyAt}
+use Rattle.envelope.specs.Envelope.{recordCountLimit, headOf, tailOf, Ordered, onHead, onBody, report, countStage, wordStage, tailStage, bodyStage}
+use Rattle.envelope.specs.Envelope.{receiverStage, dateStage, openedAs, senderOf, listed, recordsFrom}
+use Rattle.envelope.proofs.PieceLaws.{run-within, run-all, missing-ends, found-piece, picked, text-found, part-found, then-found}
+
+unread-read : (h : Parts) → Unread ≡ Read h → ⊥
+unread-read h e = let z : _≡_ {A = ℕ} 0 1 = cc in omega arith
+
+read-is : (a h : Parts) → Read a ≡ Read h → a ≡ h
+read-is a h e = cc
+
+broken-counted : (b : Span) → Broken ≡ Counted b → ⊥
+broken-counted b e = let z : _≡_ {A = ℕ} 0 1 = cc in omega arith
+
+counted-is : (a b : Span) → Counted a ≡ Counted b → a ≡ b
+counted-is a b e = cc
+
+refused-report : (n : ℕ) (l : Layout) → Refused n ≡ Report l → ⊥
+refused-report n l e = let z : _≡_ {A = ℕ} 0 1 = cc in omega arith
+
+report-is : (a l : Layout) → Report a ≡ Report l → a ≡ l
+report-is a l e = cc
+
+-- a test that comes to v, not by its other branch
+taken : {A : Type 0} (x : Bool) (a b v : A) → (b ≡ v → ⊥) → cond x a b ≡ v → (x ≡ true) × (a ≡ v)
+taken true a b v n e = (refl, e)
+taken false a b v n e = absurd (n e)
+
+passed : {A : Type 0} (x : Bool) (a b v : A) → (a ≡ v → ⊥) → cond x a b ≡ v → (x ≡ false) × (b ≡ v)
+passed true a b v n e = absurd (n e)
+passed false a b v n e = (refl, e)
+
+found-head : {A : Type 0} (x : Head) (none v : A) (f : Parts → A) → (none ≡ v → ⊥) → onHead x none f ≡ v → (h : Parts) × ((x ≡ Read h) × (f h ≡ v))
+found-head (Read h) none v f n e = (h, (refl, e))
+found-head Unread none v f n e = absurd (n e)
+
+found-body : {A : Type 0} (x : Body) (none v : A) (f : Span → A) → (none ≡ v → ⊥) → onBody x none f ≡ v → (b : Span) × ((x ≡ Counted b) × (f b ≡ v))
+found-body (Counted b) none v f n e = (b, (refl, e))
+found-body Broken none v f n e = absurd (n e)
+
+-- a part of 1 to 8 capitals or digits that ends in a plus
+name-found : (s : List ℕ) (p q : ℕ) → p ≤ length s → partThen s p CapitalOrDigit 1 8 (bytes "+") ≡ EndsAt q → nameUpTo 8 (between s p (q - 1)) ≡ true
+unfolding nameUpTo
+name-found s p q h e =
+    let w = then-found s p q h CapitalOrDigit 1 8 (bytes "+") e in
+    let n = runOf CapitalOrDigit (drop p s) in
+    let m : q - 1 - p ≡ n = omega (arith, w .0) in
+    let long : length (take n (drop p s)) ≡ n = length-take-le n (drop p s) (run-within CapitalOrDigit (drop p s)) in
+    rw (m, long, le-leb _ _ (w .1), le-leb _ _ (w .2)) (run-all CapitalOrDigit (drop p s))
+
+pub head-read : (s class : List ℕ) (h : Parts) → headOf s class ≡ Read h → Ordered s h × (nameUpTo 8 (between s (h .sender) (h .receiver - 1)) ≡ true)
+unfolding headOf
+head-read s class h e =
+    let n = unread-read h in
+    let w1 = found-piece _ _ _ _ n e in
+    let w2 = found-piece _ _ _ _ n (w1 .1 .1) in
+    let w3 = found-piece _ _ _ _ n (w2 .1 .1) in
+    let w4 = found-piece _ _ _ _ n (w3 .1 .1) in
+    let w5 = found-piece _ _ _ _ n (w4 .1 .1) in
+    let w6 = found-piece _ _ _ _ n (w5 .1 .1) in
+    let w7 = found-piece _ _ _ _ n (w6 .1 .1) in
+    let p1 = text-found s 0 (w1 .0) zero-le _ (w1 .1 .0) in
+    let p2 = then-found s (w1 .0) (w2 .0) (p1 .1) _ _ _ _ (w2 .1 .0) in
+    let p3 = then-found s (w2 .0) (w3 .0) (p2 .3) _ _ _ _ (w3 .1 .0) in
+    let p4 = then-found s (w3 .0) (w4 .0) (p3 .3) _ _ _ _ (w4 .1 .0) in
+    let p5 = then-found s (w4 .0) (w5 .0) (p4 .3) _ _ _ _ (w5 .1 .0) in
+    let p6 = part-found s (w5 .0) (w6 .0) (p5 .3) _ _ _ (w6 .1 .0) in
+    let p7 = text-found s (w6 .0) (w7 .0) (p6 .3) _ (w7 .1 .0) in
+    subst (λ (x : Parts). Ordered s x × (nameUpTo 8 (between s (x .sender) (x .receiver - 1)) ≡ true)) (read-is _ h (w7 .1 .1)) (
+      record {
+        sender = omega (arith, p2 .0);
+        receiver = omega (arith, p3 .0);
+        date = omega (arith, p4 .0);
+        time = omega (arith, p5 .0);
+        word = omega (arith, p6 .0);
+        wordEnd = omega (arith, p7 .0);
+        end = p7 .1;
+      },
+      name-found s (w1 .0) (w2 .0) (p1 .1) (w2 .1 .0),
+    )
+
+-- the word of a tail begins before the last byte of the file
+pub tail-placed : (s : List ℕ) (at word : ℕ) → at ≤ length s → tailOf s at ≡ EndsAt word → word < length s
+unfolding tailOf
+tail-placed s at word h e =
+    let w1 = found-piece _ _ _ _ (missing-ends word) e in
+    let w2 = found-piece _ _ _ _ (missing-ends word) (w1 .1 .1) in
+    let w3 = picked (eqb (w2 .0) (length s)) (w1 .0) word (w2 .1 .1) in
+    let p1 = text-found s at (w1 .0) h _ (w1 .1 .0) in
+    let p2 = then-found s (w1 .0) (w2 .0) (p1 .1) _ _ _ _ (w2 .1 .0) in
+    omega (arith, p2 .0, w3 .1, eqb-true (w2 .0) (length s) (w3 .0))
+
+-- a body that was read: its records lie within the file, before the apostrophe that ends them, and are as many as it says
+pub record Bounded (s : List ℕ) (b : Span) : Type 0 where
+  pub order : b .first ≤ b .end
+  pub within : b .end < length s
+  pub counts : recordsOf (between s (b .first) (b .end)) ≡ records (listed (recordsOf (between s (b .first) (b .end))))
+  pub count : length (listed (recordsOf (between s (b .first) (b .end)))) ≡ b .records
+
+counted-bounded : (s : List ℕ) (first end : ℕ) (r : Records) (b : Span) → first ≤ end → end < length s → recordsOf (between s first end) ≡ r
+    → counted first end r ≡ Counted b → Bounded s b
+counted-bounded s first end broken b o w q e = absurd (broken-counted b e)
+counted-bounded s first end (records rs) b o w q e =
+    subst (λ (x : Span). Bounded s x) (counted-is _ b e)
+    (record { order = o; within = w; counts = q ∙ ap (λ (r : Records). records (listed r)) (sym q); count = ap (λ (r : Records). length (listed r)) q })
+
+pub body-bounded : (s : List ℕ) (at : ℕ) (b : Span) → bodyAt s at ≡ Counted b → Bounded s b
+unfolding bodyAt linesAt
+body-bounded s at b e =
+    let w1 = found-piece (textEnd s at crlf) _ _ (linesAt s) (broken-counted b) e in
+    let first = w1 .0 in
+    let end = apostropheFrom s first in
+    let w2 = passed (leb (length s) end) _ _ _ (broken-counted b) (w1 .1 .1) in
+    let l : end < length s = leb-false _ _ (w2 .0) in
+    counted-bounded s first end (recordsOf (between s first end)) b (omega arith) l refl (w2 .1)
+
+-- what an opened report is
+pub record Whole (s : List ℕ) (l : Layout) : Type 0 where
+  pub order : l .first ≤ l .end
+  pub within : l .end ≤ length s
+  pub counts : recordsOf (between s (l .first) (l .end)) ≡ records (recordsFrom s l)
+  pub count : length (recordsFrom s l) ≡ l .records
+  pub few : l .records ≤ recordCountLimit
+  pub from : l .sender ≤ l .«sender_end»
+  pub inside : l .«sender_end» ≤ length s
+  pub named : nameUpTo 8 (senderOf s l) ≡ true
+
+body-whole : (s : List ℕ) (h : Parts) (l : Layout) → Ordered s h → nameUpTo 8 (between s (h .sender) (h .receiver - 1)) ≡ true
+    → bodyStage s h ≡ Report l → Whole s l
+unfolding bodyStage recordsFrom
+body-whole s h l o n e =
+    let w1 = found-body (bodyAt s (h .end)) _ _ (tailStage s h) (refused-report 8 l) e in
+    let b = w1 .0 in
+    let w2 = found-piece (tailOf s (b .end)) _ _ (wordStage s h b) (refused-report 9 l) (w1 .1 .1) in
+    let w3 = taken (same (between s (h .word) (h .«word_end»)) (between s (w2 .0) (length s - 1))) _ _ _ (refused-report 10 l) (w2 .1 .1) in
+    let w4 = passed (ltb recordCountLimit (b .records)) _ _ _ (refused-report 11 l) (w3 .1) in
+    let p = body-bounded s (h .end) b (w1 .1 .0) in
+    subst (λ (x : Layout). Whole s x) (report-is (report h b) l (w4 .1))
+    (record {
+      order = p .order;
+      within = omega (arith, p .within);
+      counts = p .counts;
+      count = p .count;
+      few = ltb-false _ _ (w4 .0);
+      from = omega (arith, o .sender);
+      inside = omega (arith, o .sender, o .receiver, o .date, o .time, o .word, o .wordEnd, o .end);
+      named = n;
+    })
+
+pub opened-whole : (class s : List ℕ) (l : Layout) → openedAs class s ≡ Report l → Whole s l
+unfolding openedAs
+opened-whole class s l e =
+    let w1 = found-head (headOf s class) _ _ (dateStage s) (refused-report 5 l) e in
+    let h = w1 .0 in
+    let r = head-read s class h (w1 .1 .0) in
+    let real = realDate (between s (h .date) (h .time - 1)) && realMinute (between s (h .time) (h .word - 1)) in
+    let w2 = taken real _ _ _ (refused-report 6 l) (w1 .1 .1) in
+    let w3 = taken (same (between s (h .receiver) (h .date - 1)) (bytes "ATBWA")) _ _ _ (refused-report 7 l) (w2 .1) in
+    body-whole s h l (r .0) (r .1) (w3 .1)

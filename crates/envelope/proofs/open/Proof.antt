@@ -1,0 +1,132 @@
+use mathlib.Core.Bool.{_&&_}
+use mathlib.Core.Path.{_∙_, sym}
+use native.Mathlib.Omega.{arith}
+use borrow.Author.Tests.{not-true, not-false}
+use Rattle.envelope.specs.Envelope.{Ordered, openedAs}
+use Rattle.envelope.proofs.OpenedLaws.{head-read}
+use borrow.Author.Needs.{needs}
+use Rattle.envelope.proofs.open.Statement.{statement}
+use Rattle.envelope.proofs.open.Tie as tie
+
+-- the parts of the head that was read lie one after another
+ordered : (c : tie.After-known-told) → Ordered (c .before .before .before .before .before .before .args .s .now) (c .before .h .given .0 .0)
+ordered c = head-read _ _ _ (sym (c .before .before .before .read-head .ensures) ∙ c .before .h .given .1) .0
+
+read-head-requires : tie.Need-read-head-requires
+read-head-requires c κs = search needs
+
+enum-known-h : tie.Need-enum-known-h
+enum-known-h c = search needs
+
+enum-told : tie.Need-enum-told
+enum-told c = search needs
+
+returns : tie.Need-returns
+unfolding openedAs
+returns c = rw (sym (c .before .before .read-head .ensures) ∙ (c .enum-told .given .1))
+
+sub-is-real-date : tie.Need-sub-is-real-date
+sub-is-real-date c = let o = ordered c in omega (arith, o .sender, o .receiver, o .date, o .time, o .word, o .wordEnd, o .end)
+
+sub-is-real-date-2 : tie.Need-sub-is-real-date-2
+sub-is-real-date-2 c = let o = ordered c in omega (arith, o .sender, o .receiver, o .date, o .time, o .word, o .wordEnd, o .end)
+
+part-is-real-date-start : tie.Need-part-is-real-date-start
+part-is-real-date-start c = let o = ordered c in omega (arith, o .sender, o .receiver, o .date, o .time, o .word, o .wordEnd, o .end)
+
+part-is-real-date-end : tie.Need-part-is-real-date-end
+part-is-real-date-end c = let o = ordered c in omega (arith, o .sender, o .receiver, o .date, o .time, o .word, o .wordEnd, o .end)
+
+is-real-date-requires : tie.Need-is-real-date-requires
+is-real-date-requires c κs = search needs
+
+sub-is-real-minute : tie.Need-sub-is-real-minute
+sub-is-real-minute c = let o = ordered (c .before .before) in omega (arith, o .sender, o .receiver, o .date, o .time, o .word, o .wordEnd, o .end)
+
+sub-is-real-minute-2 : tie.Need-sub-is-real-minute-2
+sub-is-real-minute-2 c = let o = ordered (c .before .before) in omega (arith, o .sender, o .receiver, o .date, o .time, o .word, o .wordEnd, o .end)
+
+part-is-real-minute-start : tie.Need-part-is-real-minute-start
+part-is-real-minute-start c = let o = ordered (c .before .before) in omega (arith, o .sender, o .receiver, o .date, o .time, o .word, o .wordEnd, o .end)
+
+part-is-real-minute-end : tie.Need-part-is-real-minute-end
+part-is-real-minute-end c = let o = ordered (c .before .before) in omega (arith, o .sender, o .receiver, o .date, o .time, o .word, o .wordEnd, o .end)
+
+is-real-minute-requires : tie.Need-is-real-minute-requires
+is-real-minute-requires c κs = search needs
+
+returns-2 : tie.Need-returns-2
+unfolding openedAs
+returns-2 c =
+    rw (
+      sym (c .before .before .before .before .before .before .before .before .read-head .ensures) ∙ (c .before .before .before .before .before .before .h .given .1),
+      (λ i. sym (c .before .before .before .is-real-date .ensures) i && sym (c .before .is-real-minute .ensures) i) ∙ not-true _ (c .if1 .taken),
+    )
+
+sub-equal : tie.Need-sub-equal
+sub-equal c = let o = ordered (c .before .before .before .before .before) in omega (arith, o .sender, o .receiver, o .date, o .time, o .word, o .wordEnd, o .end)
+
+sub-equal-2 : tie.Need-sub-equal-2
+sub-equal-2 c = let o = ordered (c .before .before .before .before .before) in omega (arith, o .sender, o .receiver, o .date, o .time, o .word, o .wordEnd, o .end)
+
+part-equal-start : tie.Need-part-equal-start
+part-equal-start c = let o = ordered (c .before .before .before .before .before) in omega (arith, o .sender, o .receiver, o .date, o .time, o .word, o .wordEnd, o .end)
+
+part-equal-end : tie.Need-part-equal-end
+part-equal-end c = let o = ordered (c .before .before .before .before .before) in omega (arith, o .sender, o .receiver, o .date, o .time, o .word, o .wordEnd, o .end)
+
+slice-aggregate-equal : tie.Need-slice-aggregate-equal
+slice-aggregate-equal c = search needs
+
+equal-requires : tie.Need-equal-requires
+equal-requires c κs = search needs
+
+returns-3 : tie.Need-returns-3
+unfolding openedAs
+returns-3 c =
+    rw (
+      sym (c .before .before .before .before .before .before .before .before .before .before .before .before .read-head .ensures) ∙ (c .before .before .before .before .before .before .before .before .before .before .h .given .1),
+      (λ i. sym (c .before .before .before .before .before .before .before .is-real-date .ensures) i && sym (c .before .before .before .before .before .is-real-minute .ensures) i) ∙ not-false _ (c .before .before .before .before .if1 .left),
+      sym (c .before .equal .ensures) ∙ not-true _ (c .if2 .taken),
+    )
+
+open-body-requires : tie.Need-open-body-requires
+open-body-requires c κs = ordered (c .before .before .before .before .before .before .before .before .before)
+
+returns-4 : tie.Need-returns-4
+unfolding openedAs
+returns-4 c =
+    rw (
+      sym (c .before .before .before .before .before .before .before .before .before .before .before .before .before .read-head .ensures) ∙ (c .before .before .before .before .before .before .before .before .before .before .before .h .given .1),
+      (λ i. sym (c .before .before .before .before .before .before .before .before .is-real-date .ensures) i && sym (c .before .before .before .before .before .before .is-real-minute .ensures) i) ∙ not-false _ (c .before .before .before .before .before .if1 .left),
+      sym (c .before .before .equal .ensures) ∙ not-false _ (c .before .if2 .left),
+    ) (c .open-body .ensures)
+
+pub open-spec : {M : Type 1} → statement M
+open-spec =
+    tie.close
+    (tie.spec
+    read-head-requires
+    enum-known-h
+    enum-told
+    returns
+    sub-is-real-date
+    sub-is-real-date-2
+    part-is-real-date-start
+    part-is-real-date-end
+    is-real-date-requires
+    sub-is-real-minute
+    sub-is-real-minute-2
+    part-is-real-minute-start
+    part-is-real-minute-end
+    is-real-minute-requires
+    returns-2
+    sub-equal
+    sub-equal-2
+    part-equal-start
+    part-equal-end
+    slice-aggregate-equal
+    equal-requires
+    returns-3
+    open-body-requires
+    returns-4)

@@ -1,0 +1,127 @@
+use Prim.Native.Nat.{_<_}
+use mathlib.Core.Path.{_∙_, sym}
+use native.Mathlib.Omega.{arith}
+use borrow.Author.Tests.{lt-ltb, le-ltb, not-true, not-false}
+use lib.ListN.{length}
+use Rattle.envelope.specs.Envelope.{bodyStage}
+use Rattle.envelope.proofs.OpenedLaws.{body-bounded, tail-placed}
+use borrow.Author.Needs.{needs}
+use Rattle.envelope.proofs.open_body.Statement.{statement}
+use Rattle.envelope.proofs.open_body.Tie as tie
+
+-- the word of the tail begins within the file
+word-in : (c : tie.After-equal-arg) → c .before .before .last .given .0 .0 < length (c .before .before .before .before .before .before .before .before .before .before .args .s .now)
+word-in c =
+    let bound = body-bounded _ _ _ (sym (c .before .before .before .before .before .before .before .before .read-body .ensures) ∙ c .before .before .before .before .before .before .b .given .1) in
+    tail-placed _ _ _ (omega (arith, bound .within)) (sym (c .before .before .before .before .read-tail .ensures) ∙ c .before .before .last .given .1)
+
+read-body-requires : tie.Need-read-body-requires
+read-body-requires c κs = search needs
+
+enum-known-b : tie.Need-enum-known-b
+enum-known-b c = search needs
+
+enum-told : tie.Need-enum-told
+enum-told c = search needs
+
+returns : tie.Need-returns
+unfolding bodyStage
+returns c = rw (sym (c .before .before .read-body .ensures) ∙ (c .enum-told .given .1))
+
+read-tail-requires : tie.Need-read-tail-requires
+read-tail-requires c κs = search needs
+
+enum-known-last : tie.Need-enum-known-last
+enum-known-last c = search needs
+
+enum-told-2 : tie.Need-enum-told-2
+enum-told-2 c = search needs
+
+returns-2 : tie.Need-returns-2
+unfolding bodyStage
+returns-2 c =
+    rw (
+      sym (c .before .before .before .before .before .before .read-body .ensures) ∙ (c .before .before .before .before .b .given .1),
+      sym (c .before .before .read-tail .ensures) ∙ (c .enum-told2 .given .1),
+    )
+
+sub-equal : tie.Need-sub-equal
+sub-equal c = search needs
+
+part-equal-start : tie.Need-part-equal-start
+part-equal-start c = search needs
+
+part-equal-end : tie.Need-part-equal-end
+part-equal-end c = search needs
+
+sub-equal-2 : tie.Need-sub-equal-2
+sub-equal-2 c = search needs
+
+sub-equal-3 : tie.Need-sub-equal-3
+sub-equal-3 c = omega (arith, word-in c)
+
+part-equal-start-2 : tie.Need-part-equal-start-2
+part-equal-start-2 c = omega (arith, word-in c)
+
+part-equal-end-2 : tie.Need-part-equal-end-2
+part-equal-end-2 c = search needs
+
+equal-requires : tie.Need-equal-requires
+equal-requires c κs = search needs
+
+returns-3 : tie.Need-returns-3
+unfolding bodyStage
+returns-3 c =
+    rw (
+      sym (c .before .before .before .before .before .before .before .before .before .before .before .read-body .ensures) ∙ (c .before .before .before .before .before .before .before .before .before .b .given .1),
+      sym (c .before .before .before .before .before .before .before .read-tail .ensures) ∙ (c .before .before .before .before .before .last .given .1),
+      sym (c .before .equal .ensures) ∙ not-true _ (c .if1 .taken),
+    )
+
+returns-4 : tie.Need-returns-4
+unfolding bodyStage
+returns-4 c =
+    rw (
+      sym (c .before .before .before .before .before .before .before .before .before .before .before .before .before .read-body .ensures) ∙ (c .before .before .before .before .before .before .before .before .before .before .before .b .given .1),
+      sym (c .before .before .before .before .before .before .before .before .before .read-tail .ensures) ∙ (c .before .before .before .before .before .before .before .last .given .1),
+      sym (c .before .before .before .equal .ensures) ∙ not-false _ (c .before .before .if1 .left),
+      lt-ltb _ _ (c .if2 .taken),
+    )
+
+sub-t11 : tie.Need-sub-t11
+sub-t11 c = search needs
+
+returns-5 : tie.Need-returns-5
+unfolding bodyStage
+returns-5 c =
+    rw (
+      sym (c .before .before .before .before .before .before .before .before .before .before .before .before .before .before .read-body .ensures) ∙ (c .before .before .before .before .before .before .before .before .before .before .before .before .b .given .1),
+      sym (c .before .before .before .before .before .before .before .before .before .before .read-tail .ensures) ∙ (c .before .before .before .before .before .before .before .before .last .given .1),
+      sym (c .before .before .before .before .equal .ensures) ∙ not-false _ (c .before .before .before .if1 .left),
+      le-ltb _ _ (c .before .if2 .left),
+    )
+
+pub open-body-spec : {M : Type 1} → statement M
+open-body-spec =
+    tie.close
+    (tie.spec
+    read-body-requires
+    enum-known-b
+    enum-told
+    returns
+    read-tail-requires
+    enum-known-last
+    enum-told-2
+    returns-2
+    sub-equal
+    part-equal-start
+    part-equal-end
+    sub-equal-2
+    sub-equal-3
+    part-equal-start-2
+    part-equal-end-2
+    equal-requires
+    returns-3
+    returns-4
+    sub-t11
+    returns-5)

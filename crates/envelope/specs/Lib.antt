@@ -1,0 +1,4 @@
+pub mod Pieces
+pub mod Body
+pub mod Envelope
+pub mod Written
