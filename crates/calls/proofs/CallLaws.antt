@@ -168,7 +168,7 @@ module _ (reporters currencies : List ℕ) (row : ℕ) (s c : List ℕ) where
 
 -- The three outcomes of a call, on the ledger that it is lent.
 module _ (reporters currencies : List ℕ) (call : Call) (l : List ℕ) where
-  refusal-is : {n : ℕ} → n ≡ refusalOf reporters currencies call (soundLedger l)
+  pub refusal-is : {n : ℕ} → n ≡ refusalOf reporters currencies call (soundLedger l)
       → refusalOf reporters currencies call (I.soundLedger (rules reporters currencies) l) ≡ n
   refusal-is e = ap (refusalOf reporters currencies call) (rules-sound reporters currencies l) ∙ sym e
 
@@ -176,15 +176,14 @@ module _ (reporters currencies : List ℕ) (call : Call) (l : List ℕ) where
       → record { reply = I.refused n; ledger = l } ≡ I.single (rules reporters currencies) call l
   call-refused {n} e ne = sym (single-refused (rules reporters currencies) call l n (refusal-is e) ne)
 
-  module _ {n : ℕ} (e : n ≡ refusalOf reporters currencies call (soundLedger l)) (z : n ≡ 0) {k : Checked} (q : k ≡ checkedOf reporters call) where
-    pub call-stranger : {failed : Failures} {reply : I.Reply (List ℕ)} → k ≡ Failed failed
-        → reply ≡ I.answer (answerBytes (answerOf (failedOf k) noReporter noRow (call .message)))
-        → record { reply = reply; ledger = l } ≡ I.single (rules reporters currencies) call l
+  module _ (e : refusalOf reporters currencies call (soundLedger l) ≡ 0) {k : Checked} (q : k ≡ checkedOf reporters call) where
+    pub call-stranger : {failed : Failures} {a : Answer} → k ≡ Failed failed → a ≡ answerOf (failedOf k) noReporter noRow (call .message)
+        → record { reply = I.answer (answerBytes a); ledger = l } ≡ I.single (rules reporters currencies) call l
     call-stranger f r =
         let none : rowOf (checkedOf reporters call) ≡ noReporter = ap rowOf (sym q ∙ f) in
-        ap (λ (w : I.Reply (List ℕ)). record { reply = w; ledger = l })
-        (r ∙ ap (λ (m : Checked). I.answer (answerBytes (answerOf (failedOf m) noReporter noRow (call .message)))) q)
-        ∙ sym (single-stranger (rules reporters currencies) call l (refusal-is e ∙ z) (rw none (omega arith)))
+        ap (λ (w : Answer). record { reply = I.answer (answerBytes w); ledger = l })
+        (r ∙ ap (λ (m : Checked). answerOf (failedOf m) noReporter noRow (call .message)) q)
+        ∙ sym (single-stranger (rules reporters currencies) call l (refusal-is (sym e)) (rw none (omega arith)))
 
     -- the compartment is lent as a part of the ledger, and comes back into its place
     pub call-step : {row : ℕ} {a : Answer} {d : List ℕ} → k ≡ Passed row → row < bankCount → length l ≡ ledgerSize
@@ -209,4 +208,4 @@ module _ (reporters currencies : List ℕ) (call : Call) (l : List ℕ) where
           reply = I.answer (answerBytes (stepAnswer reporters currencies (sym bank i) (call .message) (part compartmentSize row l)));
           ledger = put compartmentSize row (stepCompartment reporters currencies (sym bank i) (call .message) (part compartmentSize row l)) l;
         })
-        ∙ sym (single-step (rules reporters currencies) call l row (refusal-is e ∙ z) bank h)
+        ∙ sym (single-step (rules reporters currencies) call l row (refusal-is (sym e)) bank h)

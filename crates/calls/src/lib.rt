@@ -3,8 +3,7 @@ ghost use mathlib.Core.Path.{_≡_};
 ghost use mathlib.Core.Bool.{true};
 ghost use Prim.Native.Nat.{_≤_, _<_};
 ghost use lib.ListN.{length};
-ghost use Rattle.frame.specs.Isolation.{single, answer};
-ghost use Rattle.answer.specs.Answer.{answerBytes};
+ghost use Rattle.frame.specs.Isolation.{single};
 ghost use Rattle.decimal.specs.Decimal.{decimalOf, valueOf};
 ghost use Rattle.fields.specs.Fields.{stopsOf};
 ghost use Rattle.tables.specs.Currencies.{currenciesOk};
@@ -12,7 +11,8 @@ ghost use Rattle.ledger.specs.Sound.{bankCount, soundLedger};
 ghost use Rattle.calls.specs.Call.{recordLimit, noReporter, noRow, failedOf, recordForm, refusalOf, called};
 ghost use Rattle.calls.specs.Call.{answerOf, bookedAs, stepAnswer, stepCompartment};
 ghost use Rattle.calls.specs.Rules.{rules};
-ghost use Rattle.calls.specs.Reply.{opened, outcome};
+ghost use Rattle.calls.specs.Reply.{outcome};
+ghost use Rattle.calls.specs.declared.Reply.the-variants.{Answered};
 use answer::Answer;
 use decimal::Decimal;
 use failures::Failures;
@@ -20,6 +20,8 @@ use fields::part;
 use ledger::COMPARTMENT_SIZE;
 use sender::Checked;
 use text::Class;
+
+pub mod filing;
 
 // The largest record.
 const RECORD_LIMIT: usize = 32768;
@@ -133,33 +135,29 @@ fn step<'a>(
     answer_of(failed, row, free, s)
 }
 
-// The reply to a record that passes for no bank.
-fn stranger(checked: Checked, s: &[u8]) -> Reply
+// The answer to a record that passes for no bank.
+fn stranger(checked: Checked, s: &[u8]) -> Answer
     requires { ⌜ length (now s) ≤ recordLimit ⌝ }
-    ensures { λ r. ⌜ opened r ≡ answer (answerBytes (answerOf (failedOf checked) noReporter noRow (now (s .entry)))) ⌝ }
+    ensures { λ r. ⌜ r ≡ answerOf (failedOf checked) noReporter noRow (now (s .entry)) ⌝ }
 {
     match checked {
-        Checked::Failed(failed) => Reply::Answered(answer_of(failed, NO_REPORTER, NO_ROW, s)),
-        Checked::Passed(_) => Reply::Answered(answer_of(Failures::none(), NO_REPORTER, NO_ROW, s)),
+        Checked::Failed(failed) => answer_of(failed, NO_REPORTER, NO_ROW, s),
+        Checked::Passed(_) => answer_of(Failures::none(), NO_REPORTER, NO_ROW, s),
     }
 }
 
-// The single-record call: refusals 2, 3, 4, 13, 14 in that order; then the sender check; then, for a record that passes it, the step on its
-// bank's compartment.
-pub fn record_call<'a>(
+// A call that is not refused: the sender check; then, for a record that passes it, the step on its bank's compartment.
+pub(crate) fn admitted<'a>(
     reporters: &'a [u8],
     currencies: &'a [u8],
     book: &mut [u8],
     from: &'a [u8],
     s: &'a [u8],
-) -> Reply
-    ensures { λ r. ⌜ outcome r (now (book .exit)) ≡ single (rules (now (reporters .entry)) (now (currencies .entry)))
+) -> Answer
+    requires { ⌜ refusalOf (now reporters) (now currencies) (called (now from) (now s)) (soundLedger (now book)) ≡ 0 ⌝ }
+    ensures { λ r. ⌜ outcome (Answered r) (now (book .exit)) ≡ single (rules (now (reporters .entry)) (now (currencies .entry)))
         (called (now (from .entry)) (now (s .entry))) (now (book .entry)) ⌝ }
 {
-    let n = refusal(reporters, currencies, book, from, s);
-    if n != 0 {
-        return Reply::Refused(n);
-    }
     let stops = fields::index(s);
     let whole = fields::is_whole(&stops);
     let checked = sender::check(
@@ -174,5 +172,23 @@ pub fn record_call<'a>(
     };
     let a = row * COMPARTMENT_SIZE;
     let e = a + COMPARTMENT_SIZE;
-    Reply::Answered(step(&mut book[a..e], reporters, currencies, row, s, &stops))
+    step(&mut book[a..e], reporters, currencies, row, s, &stops)
+}
+
+// The single-record call: refusals 2, 3, 4, 13, 14 in that order; then the answer to a call that has none.
+pub fn record_call<'a>(
+    reporters: &'a [u8],
+    currencies: &'a [u8],
+    book: &mut [u8],
+    from: &'a [u8],
+    s: &'a [u8],
+) -> Reply
+    ensures { λ r. ⌜ outcome r (now (book .exit)) ≡ single (rules (now (reporters .entry)) (now (currencies .entry)))
+        (called (now (from .entry)) (now (s .entry))) (now (book .entry)) ⌝ }
+{
+    let n = refusal(reporters, currencies, book, from, s);
+    if n != 0 {
+        return Reply::Refused(n);
+    }
+    Reply::Answered(admitted(reporters, currencies, book, from, s))
 }

@@ -1,9 +1,6 @@
 use mathlib.Core.Path.{ap, sym, _∙_}
-use Rattle.frame.specs.Isolation.{answer}
 use Rattle.failures.specs.declared.Failures.{Failures}
 use Rattle.sender.specs.declared.Checked.{Checked}
-use Rattle.answer.specs.declared.Answer.{Answer}
-use Rattle.answer.specs.Answer.{answerBytes}
 use Rattle.calls.specs.Call.{failedOf, answerOf, noReporter, noRow}
 use borrow.Author.Needs.{needs}
 use Rattle.calls.proofs.stranger.Statement.{statement}
@@ -24,15 +21,13 @@ enum-told c = search needs
 returns : tie.Need-returns
 returns c =
     let s = c .before .before .before .before .before .args .s .now in
-    ap (λ (a : Answer). answer (answerBytes a))
-    (c .answer-of .ensures ∙ ap (λ (k : Checked). answerOf (failedOf k) noReporter noRow s) (sym (c .before .before .checked .given .1)))
+    c .answer-of .ensures ∙ ap (λ (k : Checked). answerOf (failedOf k) noReporter noRow s) (sym (c .before .before .checked .given .1))
 
 returns-2 : tie.Need-returns-2
 returns-2 c =
-    let c-args = c .before .before .before .before .before .args in
-    ap (λ (a : Answer). answer (answerBytes a))
-    (c .answer-of2 .ensures ∙ ap (λ (f : Failures). answerOf f noReporter noRow (c-args .s .now)) (c .before .none .ensures)
-    ∙ ap (λ (k : Checked). answerOf (failedOf k) noReporter noRow (c-args .s .now)) (sym (c .before .before .enum-told .given .1)))
+    let s = c .before .before .before .before .before .args .s .now in
+    c .answer-of2 .ensures ∙ ap (λ (f : Failures). answerOf f noReporter noRow s) (c .before .none .ensures)
+    ∙ ap (λ (k : Checked). answerOf (failedOf k) noReporter noRow s) (sym (c .before .before .enum-told .given .1))
 
 pub stranger-spec : {M : Type 1} → statement M
 stranger-spec =

@@ -1,0 +1,180 @@
+-- Laws of what a file call comes to before any record is judged: its refusals in their order, and that no call which a file stands for is refused.
+-- Assumes nothing.
+use Prim.Native.Nat.{ℕ, suc, _+_, _*_, _≤_, _<_}
+use native.Mathlib.Decide.{ℕ-discrete}
+use native.Mathlib.Omega.{arith}
+use mathlib.Core.Bool.{Bool, true, false, not, cond}
+use mathlib.Core.List.{List}
+use mathlib.Core.Path.{_≡_, refl, ap, sym, _∙_}
+use borrow.Author.Tests.{eq-eqb, ne-eqb, lt-ltb, le-ltb, ltb-false}
+use lib.Dec.{eqb, ltb}
+use lib.ListN.{length, take, drop, length-take, length-drop, length-map}
+use Rattle.tables.specs.Reporters.{reportersOk}
+use Rattle.tables.specs.Currencies.{currenciesOk}
+use Rattle.ledger.specs.Sound.{soundLedger}
+use Rattle.answer.specs.Answer.{answerSize}
+use Rattle.envelope.specs.declared.Layout.{Layout}
+use Rattle.envelope.specs.declared.Opened.{Opened}
+use Rattle.envelope.specs.declared.Opened.the-variants.{Report, Refused}
+use Rattle.envelope.specs.Pieces.{between}
+use Rattle.envelope.specs.Body.{records, recordsOf}
+use Rattle.envelope.specs.Envelope.{reportClass, openedOf, senderOf, recordsFrom}
+use Rattle.envelope.proofs.OpenedLaws.{Whole, opened-whole}
+use Rattle.calls.specs.declared.filing.Filed.{Filed}
+use Rattle.calls.specs.declared.filing.Filed.the-variants.{Refusal}
+use Rattle.calls.specs.Call.{Call, called, recordLimit}
+use Rattle.calls.specs.Filing.{fileLimit, Reading, refusedBy, stands, reportCalls, openedReading, readingOf, FileOutcome, fileOutcome}
+use Rattle.calls.specs.Filing.{carriedOut, fileOf}
+use Rattle.calls.specs.FileSteps.{lentRefusal, refusalIn, callsFrom, Admitted, Open}
+use Rattle.calls.proofs.RecordLaws.{body-admitted}
+
+-- the returns of refusals 1 to 4, in their order
+module _ (reporters currencies file : List ℕ) (sound : Bool) where
+  pub lent-1 : fileLimit < length file → 1 ≡ lentRefusal reporters currencies file sound
+  unfolding lentRefusal
+  lent-1 h = rw (lt-ltb _ _ h)
+
+  module _ (h : length file ≤ fileLimit) where
+    pub lent-2 : reportersOk reporters ≡ false → 2 ≡ lentRefusal reporters currencies file sound
+    unfolding lentRefusal
+    lent-2 a = rw (le-ltb _ _ h, a)
+
+    module _ (a : reportersOk reporters ≡ true) where
+      pub lent-3 : currenciesOk currencies ≡ false → 3 ≡ lentRefusal reporters currencies file sound
+      unfolding lentRefusal
+      lent-3 b = rw (le-ltb _ _ h, a, b)
+
+      pub lent-4 : currenciesOk currencies ≡ true → sound ≡ false → 4 ≡ lentRefusal reporters currencies file sound
+      unfolding lentRefusal
+      lent-4 b d = rw (le-ltb _ _ h, a, b, d)
+
+      pub lent-none : currenciesOk currencies ≡ true → sound ≡ true → 0 ≡ lentRefusal reporters currencies file sound
+      unfolding lentRefusal
+      lent-none b d = rw (le-ltb _ _ h, a, b, d)
+
+  -- what holds of a file to which none of them applies
+  pub record Lent : Type 0 where
+    pub short : length file ≤ fileLimit
+    pub listed : reportersOk reporters ≡ true
+    pub ordered : currenciesOk currencies ≡ true
+    pub kept : sound ≡ true
+
+  pub lent-ok : lentRefusal reporters currencies file sound ≡ 0 → Lent
+  unfolding lentRefusal
+  lent-ok = go (ltb fileLimit (length file)) (reportersOk reporters) (currenciesOk currencies) sound refl refl refl refl
+    where
+      go : (h a b d : Bool) → ltb fileLimit (length file) ≡ h → reportersOk reporters ≡ a → currenciesOk currencies ≡ b → sound ≡ d
+          → _≡_ {A = ℕ} (cond h 1 (cond (not a) 2 (cond (not b) 3 (cond (not d) 4 0)))) 0 → Lent
+      go false true true true h a b d z = record { short = ltb-false _ _ h; listed = a; ordered = b; kept = d }
+      go true a b d p q r s z = absurd (omega arith)
+      go false false b d p q r s z = absurd (omega arith)
+      go false true false d p q r s z = absurd (omega arith)
+      go false true true false p q r s z = absurd (omega arith)
+
+  -- a file call is refused by them, or read on
+  reading-by : (room : ℕ) → readingOf reporters currencies file room sound
+      ≡ cond (eqb (lentRefusal reporters currencies file sound) 0) (openedReading file room (openedOf file))
+      (refusedBy (lentRefusal reporters currencies file sound))
+  unfolding readingOf lentRefusal
+  reading-by room = go (ltb fileLimit (length file)) (reportersOk reporters) (currenciesOk currencies) sound (openedReading file room (openedOf file))
+    where
+      go : (h a b d : Bool) (w : Reading) → let n : ℕ = cond h 1 (cond (not a) 2 (cond (not b) 3 (cond (not d) 4 0))) in
+          cond h (refusedBy 1) (cond (not a) (refusedBy 2) (cond (not b) (refusedBy 3) (cond (not d) (refusedBy 4) w)))
+          ≡ cond (eqb n 0) w (refusedBy n)
+      go true a b d w = refl
+      go false false b d w = refl
+      go false true false d w = refl
+      go false true true false w = refl
+      go false true true true w = refl
+
+  pub reading-lent : {n : ℕ} (room : ℕ) → n ≡ lentRefusal reporters currencies file sound → (n ≡ 0 → ⊥)
+      → readingOf reporters currencies file room sound ≡ refusedBy n
+  reading-lent {n} room e ne = reading-by room ∙ rw (← e, ne-eqb n 0 ne)
+
+  pub reading-on : (room : ℕ) → lentRefusal reporters currencies file sound ≡ 0
+      → readingOf reporters currencies file room sound ≡ openedReading file room (openedOf file)
+  reading-on room e = reading-by room ∙ rw e
+
+-- A report to which none of them applies: its body, whose records are all in form, and the calls that it stands for.
+module _ (reporters currencies file : List ℕ) (sound : Bool) (free : Lent reporters currencies file sound) (l : Layout) (e : openedOf file ≡ Report l) where
+  abbrev body : List ℕ
+  body = between file (l .first) (l .end)
+
+  whole : Whole file l
+  whole = opened-whole reportClass file l e
+
+  pub report-calls : callsFrom (senderOf file l) body 0 ≡ reportCalls file l
+  unfolding reportCalls recordsFrom
+  report-calls = refl
+
+  pub report-admitted : Admitted reporters currencies (callsFrom (senderOf file l) body 0)
+  unfolding recordsFrom
+  report-admitted =
+      let short : length body ≤ recordLimit = (let h = free .short in simp (length-take, length-drop) (omega arith)) in
+      body-admitted reporters currencies (senderOf file l) (free .listed) (free .ordered) (whole .named) body short
+
+  pub report-open : (m a : List ℕ) → soundLedger m ≡ true → l .records * answerSize ≤ length a
+      → Open reporters currencies (senderOf file l) body 0 0 m a
+  unfolding recordsFrom
+  report-open m a h room =
+      let count : length (callsFrom (senderOf file l) body 0) ≡ l .records = length-map (recordsFrom file l) (called (senderOf file l)) ∙ whole .count in
+      record { whole = whole .counts; admitted = report-admitted; sound = h; room = omega arith }
+
+-- no call that a file stands for is refused
+module _ (reporters currencies file : List ℕ) (room : ℕ) (calls : List Call) where
+  opened-admitted : Lent reporters currencies file true → (o : Opened) → openedOf file ≡ o → openedReading file room o ≡ stands calls
+      → Admitted reporters currencies calls
+  opened-admitted free (Refused n) q h = let z : _≡_ {A = ℕ} 0 1 = cc in absurd (omega arith)
+  opened-admitted free (Report l) q h = go (ltb room (l .records * answerSize)) h
+    where
+      go : (b : Bool) → cond b (refusedBy 12) (stands (reportCalls file l)) ≡ stands calls → Admitted reporters currencies calls
+      go true h = let z : _≡_ {A = ℕ} 0 1 = cc in absurd (omega arith)
+      go false h =
+          let same : reportCalls file l ≡ calls = cc in
+          rw (← same, ← report-calls reporters currencies file true free l q) (report-admitted reporters currencies file true free l q)
+
+  pub standing-admitted : readingOf reporters currencies file room true ≡ stands calls → Admitted reporters currencies calls
+  standing-admitted e = go (ℕ-discrete (lentRefusal reporters currencies file true) 0)
+    where
+      go : Dec (lentRefusal reporters currencies file true ≡ 0) → Admitted reporters currencies calls
+      go (yes z) =
+          opened-admitted (lent-ok reporters currencies file true z) (openedOf file) refl (sym (reading-on reporters currencies file true room z) ∙ e)
+      go (no ne) =
+          let refused : readingOf reporters currencies file room true ≡ refusedBy (lentRefusal reporters currencies file true)
+          = reading-lent reporters currencies file true room refl ne in
+          let z : _≡_ {A = ℕ} 0 1 = cc in
+          absurd (omega arith)
+
+-- The returns of the file call, on the ledger and the buffer that it is lent.
+module _ (reporters currencies file l a : List ℕ) where
+  pub file-lent : {n : ℕ} → n ≡ lentRefusal reporters currencies file (soundLedger l) → (n ≡ 0 → ⊥)
+      → fileOutcome (Refusal n) l a ≡ fileOf reporters currencies file l a
+  unfolding fileOf carriedOut
+  file-lent e ne = rw (reading-lent reporters currencies file (soundLedger l) (length a) e ne)
+
+  module _ (free : lentRefusal reporters currencies file (soundLedger l) ≡ 0) {o : Opened} (q : o ≡ openedOf file) where
+    pub file-unopened : {n r : ℕ} → o ≡ Refused n → r ≡ refusalIn o → fileOutcome (Refusal r) l a ≡ fileOf reporters currencies file l a
+    unfolding fileOf carriedOut
+    file-unopened e h = rw (reading-on reporters currencies file (soundLedger l) (length a) free, ← q, h, e)
+
+    module _ {y : Layout} (e : o ≡ Report y) where
+      pub file-full : length a < y .records * answerSize → fileOutcome (Refusal 12) l a ≡ fileOf reporters currencies file l a
+      unfolding fileOf carriedOut
+      file-full h = rw (reading-on reporters currencies file (soundLedger l) (length a) free, ← q, e, lt-ltb _ _ h)
+
+      abbrev ok : Lent reporters currencies file (soundLedger l)
+      ok = lent-ok reporters currencies file (soundLedger l) free
+
+      abbrev records-of : List ℕ
+      records-of = between file (y .first) (y .end)
+
+      pub file-open : y .records * answerSize ≤ length a → Open reporters currencies (senderOf file y) records-of 0 0 l a
+      file-open h = report-open reporters currencies file (soundLedger l) ok y (sym q ∙ e) l a (ok .kept) h
+
+      pub file-taken : {w : FileOutcome} → y .records * answerSize ≤ length a
+          → w ≡ carriedOut reporters currencies (stands (callsFrom (senderOf file y) records-of 0)) l a → w ≡ fileOf reporters currencies file l a
+      unfolding fileOf
+      file-taken h t =
+          t ∙ rw (reading-on reporters currencies file (soundLedger l) (length a) free, ← q, e, le-ltb _ _ h)
+          (ap (λ (calls : List Call). carriedOut reporters currencies (stands calls) l a)
+          (report-calls reporters currencies file (soundLedger l) ok y (sym q ∙ e)))

@@ -1,0 +1,187 @@
+-- Laws of the loop over a body: what the records that are left bring stays the same as one after another is taken.
+-- Assumes nothing.
+use Prim.Native.Nat.{ℕ, suc, _+_, _-_, _*_, _≤_, _<_}
+use native.Mathlib.Omega.{arith}
+use mathlib.Core.Bool.{true}
+use mathlib.Core.List.{List, [], _∷_, _++_, append-nil, append-assoc, map}
+use mathlib.Core.Path.{_≡_, refl, ap, sym, _∙_}
+use borrow.Author.Tests.{le-leb}
+use lib.ListN.{length, take, drop, length-append, take-append-drop}
+use lib.Seq.{take-at, drop-at, drop-drop, length-take-le}
+use Rattle.frame.specs.Isolation.{Outcome, single, replies, ledgerAfter}
+use Rattle.frame.specs.Parts.{put}
+use Rattle.frame.proofs.PartLaws.{put-length}
+use Rattle.text.specs.declared.Class.the-variants.{RecordByte}
+use Rattle.ledger.specs.Sound.{soundLedger}
+use Rattle.answer.specs.declared.Answer.{Answer}
+use Rattle.answer.specs.Answer.{answerSize, answerBytes, answerPut}
+use Rattle.envelope.specs.declared.Piece.{Piece}
+use Rattle.envelope.specs.declared.Piece.the-variants.{EndsAt, Missing}
+use Rattle.envelope.specs.Pieces.{runOf}
+use Rattle.envelope.specs.Body.{Records, broken, records, withRecord, recordsOf, recordAt, lineEnd}
+use Rattle.envelope.specs.Envelope.{listed}
+use Rattle.envelope.proofs.LineLaws.{lines-on, lines-off, lines-end, line-placed}
+use Rattle.calls.specs.declared.Reply.the-variants.{Answered}
+use Rattle.calls.specs.declared.filing.Filed.{Filed}
+use Rattle.calls.specs.declared.filing.Filed.the-variants.{Count}
+use Rattle.calls.specs.Call.{Call, called, refusalOf}
+use Rattle.calls.specs.Rules.{rules}
+use Rattle.calls.specs.Reply.{outcome}
+use Rattle.calls.specs.Filing.{stands, answersIn, FileOutcome, fileOutcome, carriedOut}
+use Rattle.calls.specs.FileSteps.{callsFrom, Admitted, Ready, Taken, Open}
+use Rattle.calls.proofs.ListLaws.{answers-append, after-sound, single-answered}
+
+-- the buffer before and behind answer k, once that is written
+module _ (k : ℕ) (w a : List ℕ) (sized : length w ≡ answerSize) (room : k * answerSize + answerSize ≤ length a) where
+  front-length : length (take (k * answerSize) a ++ w) ≡ (k + 1) * answerSize
+  front-length = rw (length-append, length-take-le (k * answerSize) a (omega arith)) (omega arith)
+
+  put-splits : put answerSize k w a ≡ (take (k * answerSize) a ++ w) ++ drop ((k + 1) * answerSize) a
+  unfolding put
+  put-splits =
+      let e : k * answerSize + answerSize ≡ (k + 1) * answerSize = omega arith in
+      rw (append-assoc, ← e, ← drop-drop answerSize (k * answerSize) a)
+
+  put-front : take ((k + 1) * answerSize) (put answerSize k w a) ≡ take (k * answerSize) a ++ w
+  put-front = rw put-splits (take-at _ _ _ front-length)
+
+  put-behind : (n : ℕ) → drop ((k + 1 + n) * answerSize) (put answerSize k w a) ≡ drop ((k + 1 + n) * answerSize) a
+  put-behind n =
+      let m : ℕ = (k + 1) * answerSize in
+      let e : (k + 1 + n) * answerSize ≡ m + n * answerSize = omega arith in
+      let same : drop m (put answerSize k w a) ≡ drop m a = rw put-splits (drop-at (take (k * answerSize) a ++ w) _ m front-length) in
+      rw (e, ← drop-drop (n * answerSize) m (put answerSize k w a), same) (drop-drop (n * answerSize) m a)
+
+-- what is lent of a body as its record at a place
+module _ (body : List ℕ) (at next : ℕ) (more : at < length body) (e : lineEnd body at ≡ EndsAt next) where
+  pub record-lent : take (next - 2 - at) (drop at body) ≡ recordAt body at
+  record-lent =
+      let placed = line-placed body at next (omega arith) e in
+      let n : next - 2 - at ≡ runOf RecordByte (drop at body) = omega arith in
+      ap (λ (m : ℕ). take m (drop at body)) n
+
+-- a record was called, and its answer written as number k
+module _ (reporters currencies from body : List ℕ) (at k : ℕ) (l a : List ℕ) (h : Ready reporters currencies from body at k l a) where
+  pub record-taken : {next : ℕ} (w : Answer) {m b : List ℕ} → lineEnd body at ≡ EndsAt next
+      → outcome (Answered w) m ≡ single (rules reporters currencies) (called from (take (next - 2 - at) (drop at body))) l
+      → b ≡ answerPut (k * answerSize) w a → Taken reporters currencies from body at k l a next m b
+  unfolding answerPut put answersIn
+  record-taken {next} w {m} {b} e o p =
+      let call : List ℕ → Call = called from in
+      let done : outcome (Answered w) m ≡ single (rules reporters currencies) (call (recordAt body at)) l
+      = o ∙ ap (λ (r : List ℕ). single (rules reporters currencies) (call r) l) (record-lent body at next (h .more) e) in
+      let bytes : answerBytes w ≡ answersIn (single (rules reporters currencies) (call (recordAt body at)) l .reply ∷ [])
+      = sym (append-nil (answerBytes w)) ∙ ap (λ (q : Outcome (List ℕ)). answersIn (q .reply ∷ [])) done in
+      record {
+        line = e;
+        ledger = ap (λ (q : Outcome (List ℕ)). q .ledger) done;
+        buffer = p ∙ rw (le-leb _ _ (h .room), bytes);
+      }
+
+module _ (reporters currencies : List ℕ) where
+  -- what the calls that are left bring, after k answers
+  abbrev pub outcomeFrom : ℕ → List Call → List ℕ → List ℕ → FileOutcome
+  outcomeFrom k calls l a =
+      fileOutcome (Count (k + length calls)) (ledgerAfter (rules reporters currencies) calls l)
+      (take (k * answerSize) a ++ (answersIn (replies (rules reporters currencies) calls l) ++ drop ((k + length calls) * answerSize) a))
+
+  -- the first of them is called, and its answer written
+  outcome-step : (k : ℕ) (c : Call) (cs : List Call) (l a : List ℕ) → refusalOf reporters currencies c (soundLedger l) ≡ 0
+      → k * answerSize + answerSize ≤ length a → let o = single (rules reporters currencies) c l in
+      outcomeFrom k (c ∷ cs) l a ≡ outcomeFrom (k + 1) cs (o .ledger) (put answerSize k (answersIn (o .reply ∷ [])) a)
+  outcome-step k c cs l a free room =
+      let o = single (rules reporters currencies) c l in
+      let w : List ℕ = answersIn (o .reply ∷ []) in
+      let ws : List ℕ = answersIn (replies (rules reporters currencies) cs (o .ledger)) in
+      let sized : length w ≡ answerSize = single-answered reporters currencies c l free in
+      let count : k + suc (length cs) ≡ k + 1 + length cs = omega arith in
+      let joined : answersIn (replies (rules reporters currencies) (c ∷ cs) l) ≡ w ++ ws
+      = answers-append (o .reply ∷ []) (replies (rules reporters currencies) cs (o .ledger)) in
+      rw (count, joined, put-front k w a sized room, put-behind k w a sized room (length cs)) (simp append-assoc)
+
+  module _ (from body : List ℕ) where
+    -- what holds as the records are taken: the calls from a place on are left, k are answered, and the end is as it was
+    pub record Going (l₀ a₀ : List ℕ) (at k : ℕ) (l a : List ℕ) : Type 0 where
+      pub now : Open reporters currencies from body at k l a
+      pub long : length a ≡ length a₀
+      pub same : outcomeFrom 0 (callsFrom from body 0) l₀ a₀ ≡ outcomeFrom k (callsFrom from body at) l a
+
+    pub going-start : (l a : List ℕ) → Open reporters currencies from body 0 0 l a → Going l a 0 0 l a
+    going-start l a h = record { now = h; long = refl; same = refl }
+
+    -- a record in front of the others
+    with-record : (r : List ℕ) (rs : Records) → withRecord r rs ≡ records (listed (withRecord r rs))
+        → (rs ≡ records (listed rs)) × (listed (withRecord r rs) ≡ r ∷ listed rs)
+    with-record r broken h = let z : _≡_ {A = ℕ} 0 1 = cc in absurd (omega arith)
+    with-record r (records rs) h = (refl, refl)
+
+    module _ (l₀ a₀ : List ℕ) (at k : ℕ) (l a : List ℕ) (g : Going l₀ a₀ at k l a) (more : at < length body) where
+      line-there : lineEnd body at ≡ Missing → ⊥
+      line-there e =
+          let off : recordsOf (drop at body) ≡ broken = lines-off body at more e in
+          let whole : recordsOf (drop at body) ≡ records (listed (recordsOf (drop at body))) = g .now .whole in
+          let z : _≡_ {A = ℕ} 0 1 = cc in
+          omega arith
+
+      -- the calls that are left are the record's at this place, and those from the next place on
+      module _ (next : ℕ) (e : lineEnd body at ≡ EndsAt next) where
+        split : (recordsOf (drop next body) ≡ records (listed (recordsOf (drop next body))))
+            × (callsFrom from body at ≡ called from (recordAt body at) ∷ callsFrom from body next)
+        split =
+            let on = lines-on body at next more e in
+            let w = with-record (recordAt body at) (recordsOf (drop next body)) (sym on ∙ g .now .whole ∙ ap (λ (r : Records). records (listed r)) on) in
+            (w .0, ap (λ (r : Records). map (called from) (listed r)) on ∙ ap (map (called from)) (w .1))
+
+        free : (refusalOf reporters currencies (called from (recordAt body at)) (soundLedger l) ≡ 0)
+            × Admitted reporters currencies (callsFrom from body next)
+        free =
+            let h : Admitted reporters currencies (called from (recordAt body at) ∷ callsFrom from body next) = rw (split .1) at (g .now .admitted) in
+            (ap (refusalOf reporters currencies (called from (recordAt body at))) (g .now .sound) ∙ h .0, h .1)
+
+        room : k * answerSize + answerSize ≤ length a
+        room =
+            let count : length (callsFrom from body at) ≡ suc (length (callsFrom from body next)) = ap length (split .1) in
+            let r = g .now .room in
+            omega arith
+
+      pub going-ready : Ready reporters currencies from body at k l a
+      going-ready = go (lineEnd body at) refl
+        where
+          go : (p : Piece) → lineEnd body at ≡ p → Ready reporters currencies from body at k l a
+          go (EndsAt next) e = record { more = more; line = line-there; admitted = free next e .0; room = room next e }
+          go Missing e = absurd (line-there e)
+
+      pub going-step : (next : ℕ) (l' a' : List ℕ) → Taken reporters currencies from body at k l a next l' a' → Going l₀ a₀ next (k + 1) l' a'
+      going-step next l' a' t =
+          let call : Call = called from (recordAt body at) in
+          let e = t .line in
+          let sized = single-answered reporters currencies call l (free next e .0) in
+          let long : length a' ≡ length a
+          = ap length (t .buffer) ∙ put-length answerSize k (answersIn (single (rules reporters currencies) call l .reply ∷ [])) a (room next e) sized in
+          let count : length (callsFrom from body at) ≡ suc (length (callsFrom from body next)) = ap length (split next e .1) in
+          let r = g .now .room in
+          record {
+            now = record {
+              whole = split next e .0;
+              admitted = free next e .1;
+              sound = ap soundLedger (t .ledger) ∙ after-sound reporters currencies (call ∷ []) l (g .now .sound);
+              room = rw long (omega arith);
+            };
+            long = long ∙ g .long;
+            same =
+                g .same
+                ∙ rw (split next e .1, t .buffer, t .ledger) (outcome-step k call (callsFrom from body next) l a (free next e .0) (room next e));
+          }
+
+    -- at the body's end all is done
+    pub going-done : (l₀ a₀ : List ℕ) (at k : ℕ) (l a : List ℕ) → Going l₀ a₀ at k l a → length body ≤ at
+        → fileOutcome (Count k) l a ≡ carriedOut reporters currencies (stands (callsFrom from body 0)) l₀ a₀
+    unfolding carriedOut answersIn
+    going-done l₀ a₀ at k l a g h =
+        let none : callsFrom from body at ≡ [] = ap (λ (r : Records). map (called from) (listed r)) (lines-end body at h) in
+        let last : outcomeFrom k [] l a ≡ fileOutcome (Count k) l a
+        = (let e : k + 0 ≡ k = omega arith in rw e (ap (fileOutcome (Count k) l) (take-append-drop (k * answerSize) a))) in
+        let all : ℕ = length (callsFrom from body 0) in
+        let first : carriedOut reporters currencies (stands (callsFrom from body 0)) l₀ a₀ ≡ outcomeFrom 0 (callsFrom from body 0) l₀ a₀
+        = (let e : 0 + all ≡ all = omega arith in rw e) in
+        sym (first ∙ g .same ∙ rw none last)
