@@ -17,7 +17,8 @@ abbrev μ-loop : tie.MeasureT-loop
 
 -- the line that was found
 found : (c : tie.After-known-told Inv-loop μ-loop) →
-    let into = c .before .before .before .before .before .before .before in lineEnd (into .before .before .args .s .now) (into .loop .p) ≡ EndsAt (c .before .q .given .0 .0)
+    let into = c .before .before .before .before .before .before .before in
+    lineEnd (into .before .before .args .s .now) (into .loop .p) ≡ EndsAt (c .before .q .given .0 .0)
 found c = sym (c .before .before .before .line-end .ensures) ∙ (c .before .q .given .1)
 
 loop-holds : tie.Need-loop-holds Inv-loop μ-loop
@@ -40,7 +41,10 @@ enum-told c = search needs
 
 returns-2 : tie.Need-returns-2 Inv-loop μ-loop
 returns-2 c =
-    sym (c .before .before .before .before .before .before .loop .inv .1 ∙ count-off _ _ _ _ (c .before .before .before .before .before .loop-test .taken) (c .before .before .before .if1 .left) (sym (c .before .before .line-end .ensures) ∙ (c .enum-told .given .1)))
+    let back5 = c .before .before .before .before .before in
+    let back6 = back5 .before in
+    let missing = sym (c .before .before .line-end .ensures) ∙ c .enum-told .given .1 in
+    sym (back6 .loop .inv .1 ∙ count-off _ _ _ _ (back5 .loop-test .taken) (c .before .before .before .if1 .left) missing)
 
 add-n : tie.Need-add-n Inv-loop μ-loop
 add-n c = omega (arith, line-placed _ _ _ (omega arith) (found c), c .known-told .given)
@@ -50,7 +54,12 @@ loop-less c = omega (arith, line-placed _ _ _ (omega arith) (found c))
 
 loop-again : tie.Need-loop-again Inv-loop μ-loop
 loop-again c =
-    (omega (arith, line-placed _ _ _ (omega arith) (found c)), c .before .before .before .before .before .before .before .loop .inv .1 ∙ count-more _ _ _ _ (c .before .before .before .before .before .before .loop-test .taken) (c .before .before .before .before .if1 .left) _ (found c))
+    let back4 = c .before .before .before .before in
+    let back6 = back4 .before .before in
+    let back7 = back6 .before in (
+      omega (arith, line-placed _ _ _ (omega arith) (found c)),
+      back7 .loop .inv .1 ∙ count-more _ _ _ _ (back6 .loop-test .taken) (back4 .if1 .left) _ (found c),
+    )
 
 returns-3 : tie.Need-returns-3 Inv-loop μ-loop
 returns-3 c = sym (c .before .loop .inv .1 ∙ count-end _ _ _ _ (c .loop-test .left))

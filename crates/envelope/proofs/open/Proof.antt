@@ -58,22 +58,32 @@ is-real-minute-requires c κs = search needs
 returns-2 : tie.Need-returns-2
 unfolding openedAs
 returns-2 c =
+    let back6 = c .before .before .before .before .before .before in
+    let back8 = back6 .before .before in
     rw (
-      sym (c .before .before .before .before .before .before .before .before .read-head .ensures) ∙ (c .before .before .before .before .before .before .h .given .1),
+      sym (back8 .read-head .ensures) ∙ (back6 .h .given .1),
       (λ i. sym (c .before .before .before .is-real-date .ensures) i && sym (c .before .is-real-minute .ensures) i) ∙ not-true _ (c .if1 .taken),
     )
 
 sub-equal : tie.Need-sub-equal
-sub-equal c = let o = ordered (c .before .before .before .before .before) in omega (arith, o .sender, o .receiver, o .date, o .time, o .word, o .wordEnd, o .end)
+sub-equal c =
+    let back5 = c .before .before .before .before .before in
+    let o = ordered (back5) in omega (arith, o .sender, o .receiver, o .date, o .time, o .word, o .wordEnd, o .end)
 
 sub-equal-2 : tie.Need-sub-equal-2
-sub-equal-2 c = let o = ordered (c .before .before .before .before .before) in omega (arith, o .sender, o .receiver, o .date, o .time, o .word, o .wordEnd, o .end)
+sub-equal-2 c =
+    let back5 = c .before .before .before .before .before in
+    let o = ordered (back5) in omega (arith, o .sender, o .receiver, o .date, o .time, o .word, o .wordEnd, o .end)
 
 part-equal-start : tie.Need-part-equal-start
-part-equal-start c = let o = ordered (c .before .before .before .before .before) in omega (arith, o .sender, o .receiver, o .date, o .time, o .word, o .wordEnd, o .end)
+part-equal-start c =
+    let back5 = c .before .before .before .before .before in
+    let o = ordered (back5) in omega (arith, o .sender, o .receiver, o .date, o .time, o .word, o .wordEnd, o .end)
 
 part-equal-end : tie.Need-part-equal-end
-part-equal-end c = let o = ordered (c .before .before .before .before .before) in omega (arith, o .sender, o .receiver, o .date, o .time, o .word, o .wordEnd, o .end)
+part-equal-end c =
+    let back5 = c .before .before .before .before .before in
+    let o = ordered (back5) in omega (arith, o .sender, o .receiver, o .date, o .time, o .word, o .wordEnd, o .end)
 
 slice-aggregate-equal : tie.Need-slice-aggregate-equal
 slice-aggregate-equal c = search needs
@@ -84,9 +94,14 @@ equal-requires c κs = search needs
 returns-3 : tie.Need-returns-3
 unfolding openedAs
 returns-3 c =
+    let back4 = c .before .before .before .before in
+    let back5 = back4 .before in
+    let back7 = back5 .before .before in
+    let back10 = back7 .before .before .before in
+    let back12 = back10 .before .before in
     rw (
-      sym (c .before .before .before .before .before .before .before .before .before .before .before .before .read-head .ensures) ∙ (c .before .before .before .before .before .before .before .before .before .before .h .given .1),
-      (λ i. sym (c .before .before .before .before .before .before .before .is-real-date .ensures) i && sym (c .before .before .before .before .before .is-real-minute .ensures) i) ∙ not-false _ (c .before .before .before .before .if1 .left),
+      sym (back12 .read-head .ensures) ∙ (back10 .h .given .1),
+      (λ i. sym (back7 .is-real-date .ensures) i && sym (back5 .is-real-minute .ensures) i) ∙ not-false _ (back4 .if1 .left),
       sym (c .before .equal .ensures) ∙ not-true _ (c .if2 .taken),
     )
 
@@ -96,9 +111,14 @@ open-body-requires c κs = ordered (c .before .before .before .before .before .b
 returns-4 : tie.Need-returns-4
 unfolding openedAs
 returns-4 c =
+    let back5 = c .before .before .before .before .before in
+    let back6 = back5 .before in
+    let back8 = back6 .before .before in
+    let back11 = back8 .before .before .before in
+    let back13 = back11 .before .before in
     rw (
-      sym (c .before .before .before .before .before .before .before .before .before .before .before .before .before .read-head .ensures) ∙ (c .before .before .before .before .before .before .before .before .before .before .before .h .given .1),
-      (λ i. sym (c .before .before .before .before .before .before .before .before .is-real-date .ensures) i && sym (c .before .before .before .before .before .before .is-real-minute .ensures) i) ∙ not-false _ (c .before .before .before .before .before .if1 .left),
+      sym (back13 .read-head .ensures) ∙ (back11 .h .given .1),
+      (λ i. sym (back8 .is-real-date .ensures) i && sym (back6 .is-real-minute .ensures) i) ∙ not-false _ (back5 .if1 .left),
       sym (c .before .before .equal .ensures) ∙ not-false _ (c .before .if2 .left),
     ) (c .open-body .ensures)
 

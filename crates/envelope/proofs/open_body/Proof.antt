@@ -10,10 +10,14 @@ use Rattle.envelope.proofs.open_body.Statement.{statement}
 use Rattle.envelope.proofs.open_body.Tie as tie
 
 -- the word of the tail begins within the file
-word-in : (c : tie.After-equal-arg) → c .before .before .last .given .0 .0 < length (c .before .before .before .before .before .before .before .before .before .before .args .s .now)
+word-in : (c : tie.After-equal-arg) → let start = c .before .before .before .before .before .before .before .before .before .before in
+    c .before .before .last .given .0 .0 < length (start .args .s .now)
 word-in c =
-    let bound = body-bounded _ _ _ (sym (c .before .before .before .before .before .before .before .before .read-body .ensures) ∙ c .before .before .before .before .before .before .b .given .1) in
-    tail-placed _ _ _ (omega (arith, bound .within)) (sym (c .before .before .before .before .read-tail .ensures) ∙ c .before .before .last .given .1)
+    let back4 = c .before .before .before .before in
+    let back6 = back4 .before .before in
+    let back8 = back6 .before .before in
+    let bound = body-bounded _ _ _ (sym (back8 .read-body .ensures) ∙ back6 .b .given .1) in
+    tail-placed _ _ _ (omega (arith, bound .within)) (sym (back4 .read-tail .ensures) ∙ c .before .before .last .given .1)
 
 read-body-requires : tie.Need-read-body-requires
 read-body-requires c κs = search needs
@@ -72,18 +76,26 @@ equal-requires c κs = search needs
 returns-3 : tie.Need-returns-3
 unfolding bodyStage
 returns-3 c =
+    let back5 = c .before .before .before .before .before in
+    let back7 = back5 .before .before in
+    let back9 = back7 .before .before in
+    let back11 = back9 .before .before in
     rw (
-      sym (c .before .before .before .before .before .before .before .before .before .before .before .read-body .ensures) ∙ (c .before .before .before .before .before .before .before .before .before .b .given .1),
-      sym (c .before .before .before .before .before .before .before .read-tail .ensures) ∙ (c .before .before .before .before .before .last .given .1),
+      sym (back11 .read-body .ensures) ∙ (back9 .b .given .1),
+      sym (back7 .read-tail .ensures) ∙ (back5 .last .given .1),
       sym (c .before .equal .ensures) ∙ not-true _ (c .if1 .taken),
     )
 
 returns-4 : tie.Need-returns-4
 unfolding bodyStage
 returns-4 c =
+    let back7 = c .before .before .before .before .before .before .before in
+    let back9 = back7 .before .before in
+    let back11 = back9 .before .before in
+    let back13 = back11 .before .before in
     rw (
-      sym (c .before .before .before .before .before .before .before .before .before .before .before .before .before .read-body .ensures) ∙ (c .before .before .before .before .before .before .before .before .before .before .before .b .given .1),
-      sym (c .before .before .before .before .before .before .before .before .before .read-tail .ensures) ∙ (c .before .before .before .before .before .before .before .last .given .1),
+      sym (back13 .read-body .ensures) ∙ (back11 .b .given .1),
+      sym (back9 .read-tail .ensures) ∙ (back7 .last .given .1),
       sym (c .before .before .before .equal .ensures) ∙ not-false _ (c .before .before .if1 .left),
       lt-ltb _ _ (c .if2 .taken),
     )
@@ -94,10 +106,15 @@ sub-t11 c = search needs
 returns-5 : tie.Need-returns-5
 unfolding bodyStage
 returns-5 c =
+    let back4 = c .before .before .before .before in
+    let back8 = back4 .before .before .before .before in
+    let back10 = back8 .before .before in
+    let back12 = back10 .before .before in
+    let back14 = back12 .before .before in
     rw (
-      sym (c .before .before .before .before .before .before .before .before .before .before .before .before .before .before .read-body .ensures) ∙ (c .before .before .before .before .before .before .before .before .before .before .before .before .b .given .1),
-      sym (c .before .before .before .before .before .before .before .before .before .before .read-tail .ensures) ∙ (c .before .before .before .before .before .before .before .before .last .given .1),
-      sym (c .before .before .before .before .equal .ensures) ∙ not-false _ (c .before .before .before .if1 .left),
+      sym (back14 .read-body .ensures) ∙ (back12 .b .given .1),
+      sym (back10 .read-tail .ensures) ∙ (back8 .last .given .1),
+      sym (back4 .equal .ensures) ∙ not-false _ (c .before .before .before .if1 .left),
       le-ltb _ _ (c .before .if2 .left),
     )
 
