@@ -4,9 +4,9 @@ use Prim.Native.Nat.{ℕ, _*_}
 use mathlib.Core.Bool.{Bool, true}
 use mathlib.Core.List.{List, [], _∷_, _++_}
 use mathlib.Core.Path.{_≡_, refl, ap, sym, _∙_}
-use lib.ListN.{length, take, drop}
+use lib.ListN.{length}
 use lib.Seq.{take-at}
-use Rattle.frame.specs.Isolation.{single, replies, ledgerAfter}
+use Rattle.frame.specs.Isolation.{replies, ledgerAfter}
 use Rattle.ledger.specs.Sound.{soundLedger}
 use Rattle.answer.specs.Answer.{answerSize}
 use Rattle.calls.specs.Call.{Call}

@@ -1,14 +1,14 @@
 -- Laws of what a file call comes to before any record is judged: its refusals in their order, and that no call which a file stands for is refused.
 -- Assumes nothing.
-use Prim.Native.Nat.{ℕ, suc, _+_, _*_, _≤_, _<_}
+use Prim.Native.Nat.{ℕ, _*_, _≤_, _<_}
 use native.Mathlib.Decide.{ℕ-discrete}
 use native.Mathlib.Omega.{arith}
 use mathlib.Core.Bool.{Bool, true, false, not, cond}
 use mathlib.Core.List.{List}
 use mathlib.Core.Path.{_≡_, refl, ap, sym, _∙_}
-use borrow.Author.Tests.{eq-eqb, ne-eqb, lt-ltb, le-ltb, ltb-false}
+use borrow.Author.Tests.{ne-eqb, lt-ltb, le-ltb, ltb-false}
 use lib.Dec.{eqb, ltb}
-use lib.ListN.{length, take, drop, length-take, length-drop, length-map}
+use lib.ListN.{length, length-take, length-drop, length-map}
 use Rattle.tables.specs.Reporters.{reportersOk}
 use Rattle.tables.specs.Currencies.{currenciesOk}
 use Rattle.ledger.specs.Sound.{soundLedger}
@@ -17,10 +17,9 @@ use Rattle.envelope.specs.declared.Layout.{Layout}
 use Rattle.envelope.specs.declared.Opened.{Opened}
 use Rattle.envelope.specs.declared.Opened.the-variants.{Report, Refused}
 use Rattle.envelope.specs.Pieces.{between}
-use Rattle.envelope.specs.Body.{records, recordsOf}
+use Rattle.envelope.specs.Body.{records}
 use Rattle.envelope.specs.Envelope.{reportClass, openedOf, senderOf, recordsFrom}
 use Rattle.envelope.proofs.OpenedLaws.{Whole, opened-whole}
-use Rattle.calls.specs.declared.filing.Filed.{Filed}
 use Rattle.calls.specs.declared.filing.Filed.the-variants.{Refusal}
 use Rattle.calls.specs.Call.{Call, called, recordLimit}
 use Rattle.calls.specs.Filing.{fileLimit, Reading, refusedBy, stands, reportCalls, openedReading, readingOf, FileOutcome, fileOutcome}

@@ -2,7 +2,6 @@
 -- Assumes nothing.
 use Prim.Native.Nat.{ℕ, suc, _+_, _-_, _*_, _≤_, _<_}
 use native.Mathlib.Omega.{arith}
-use mathlib.Core.Bool.{true}
 use mathlib.Core.List.{List, [], _∷_, _++_, append-nil, append-assoc, map}
 use mathlib.Core.Path.{_≡_, refl, ap, sym, _∙_}
 use borrow.Author.Tests.{le-leb}
@@ -22,7 +21,6 @@ use Rattle.envelope.specs.Body.{Records, broken, records, withRecord, recordsOf
 use Rattle.envelope.specs.Envelope.{listed}
 use Rattle.envelope.proofs.LineLaws.{lines-on, lines-off, lines-end, line-placed}
 use Rattle.calls.specs.declared.Reply.the-variants.{Answered}
-use Rattle.calls.specs.declared.filing.Filed.{Filed}
 use Rattle.calls.specs.declared.filing.Filed.the-variants.{Count}
 use Rattle.calls.specs.Call.{Call, called, refusalOf}
 use Rattle.calls.specs.Rules.{rules}
@@ -54,14 +52,19 @@ module _ (k : ℕ) (w a : List ℕ) (sized : length w ≡ answerSize) (room : k 
 
 -- what is lent of a body as its record at a place
 module _ (body : List ℕ) (at next : ℕ) (more : at < length body) (e : lineEnd body at ≡ EndsAt next) where
-  pub record-lent : take (next - 2 - at) (drop at body) ≡ recordAt body at
+  record-lent : take (next - 2 - at) (drop at body) ≡ recordAt body at
   record-lent =
       let placed = line-placed body at next (omega arith) e in
       let n : next - 2 - at ≡ runOf RecordByte (drop at body) = omega arith in
       ap (λ (m : ℕ). take m (drop at body)) n
 
--- a record was called, and its answer written as number k
+-- the call of a record that stands ready, and its answer, written as number k
 module _ (reporters currencies from body : List ℕ) (at k : ℕ) (l a : List ℕ) (h : Ready reporters currencies from body at k l a) where
+  pub lent-admitted : {next : ℕ} → lineEnd body at ≡ EndsAt next
+      → refusalOf reporters currencies (called from (take (next - 2 - at) (drop at body))) (soundLedger l) ≡ 0
+  lent-admitted {next} e =
+      ap (λ (r : List ℕ). refusalOf reporters currencies (called from r) (soundLedger l)) (record-lent body at next (h .more) e) ∙ h .admitted
+
   pub record-taken : {next : ℕ} (w : Answer) {m b : List ℕ} → lineEnd body at ≡ EndsAt next
       → outcome (Answered w) m ≡ single (rules reporters currencies) (called from (take (next - 2 - at) (drop at body))) l
       → b ≡ answerPut (k * answerSize) w a → Taken reporters currencies from body at k l a next m b

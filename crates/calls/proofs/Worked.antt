@@ -38,7 +38,6 @@ use Rattle.checks.specs.Record.{recordTests, recordFailures}
 use Rattle.checks.specs.Booking.{namedRow, bookingTests, bookingOf}
 use Rattle.checks.specs.Verdict.{failuresFrom7}
 use Rattle.checks.proofs.Worked.{reporter, reporters, r1}
-use Rattle.envelope.specs.declared.Span.{Span}
 use Rattle.envelope.specs.declared.Body.{Body}
 use Rattle.envelope.specs.declared.Body.the-variants.{Counted}
 use Rattle.envelope.specs.Pieces.{between, runOf, begins, textEnd}

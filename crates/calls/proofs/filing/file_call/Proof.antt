@@ -50,7 +50,8 @@ same-length-3 c = search needs
 returns-3 : tie.Need-returns-3
 returns-3 c =
     let told = c .before .before in
-    file-full _ _ _ _ _ (free told) (told .before .before .before .open-report .ensures) (told .before .opened .given .1) (c .if2 .taken)
+    file-full _ _ _ _ (start told .args .answers .now) (free told) (told .before .before .before .open-report .ensures) (told .before .opened .given .1)
+    (c .if2 .taken)
 
 sub-from : tie.Need-sub-from
 sub-from c = omega (arith, whole (c .before .before))

@@ -7,7 +7,7 @@ use Rattle.envelope.specs.declared.Piece.the-variants.{EndsAt}
 use Rattle.envelope.specs.Pieces.{runOf}
 use Rattle.envelope.specs.Body.{lineEnd}
 use Rattle.envelope.proofs.LineLaws.{line-placed}
-use Rattle.calls.proofs.TakingLaws.{record-lent, record-taken}
+use Rattle.calls.proofs.TakingLaws.{lent-admitted, record-taken}
 use borrow.Author.Needs.{needs}
 use Rattle.calls.proofs.filing.take_record.Statement.{statement}
 use Rattle.calls.proofs.filing.take_record.Tie as tie
@@ -51,7 +51,7 @@ part-admitted-end c = omega (arith, placed (c .before))
 admitted-requires : tie.Need-admitted-requires
 admitted-requires c κs =
     let line = c .before .before in
-    rw (record-lent _ _ _ (start line .pre .more) (found line)) (start line .pre .admitted)
+    lent-admitted _ _ _ _ _ _ _ _ (start line .pre) (found line)
 
 mul-write : tie.Need-mul-write
 mul-write c = search needs
