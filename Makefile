@@ -1,8 +1,8 @@
-# make run: the main job. make test: the whole gate.
+# make run: books a report, the worked day of examples/day or, with DIR=folder, the one in that folder. make test: the whole gate.
 .PHONY: run test
 
 run:
-	@echo "make run: the program that books a report file is not built yet; make test proves what is here."
+	@bash scripts/run $(if $(DIR),"$(DIR)")
 
 test:
 	@bash scripts/test

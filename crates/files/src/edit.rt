@@ -1,0 +1,68 @@
+// Edits, `OBJECT:PLACE/DROP/TIMES/PIECE`: at a place of the object, its number or the text that stands there, so many bytes are dropped, and a
+// piece is put in so many times, text or, behind %, hexadecimal. `file:ATBWA/5/1/ATBWB` changes the receiver, `file:500/9999/0/` cuts.
+ghost use Prim.Native.Nat.{_≤_};
+ghost use lib.ListN.{length};
+ghost use Rattle.io.specs.Counts.{Counts};
+use crate::parts::append_piece;
+use crate::parts::before;
+use crate::parts::behind;
+use crate::parts::number;
+use crate::parts::place;
+
+// Writes a piece so many times.
+fn append_times(out: &mut [u8], at: usize, times: usize, piece: &[u8]) -> usize {
+    let mut end = at;
+    let mut k = 0;
+    while k < times {
+        end = append_piece(out, end, piece);
+        k += 1;
+    }
+    end
+}
+
+// Writes an object, edited.
+fn append_edited(out: &mut [u8], object: &[u8], edit: &[u8]) -> usize {
+    let dropping = behind(edit, b'/');
+    let putting = behind(dropping, b'/');
+    let at = place(object, before(edit, b'/'));
+    let rest = text::rest(text::rest(object, at), number(before(dropping, b'/')));
+    let kept = page::append(out, 0, text::front(object, at));
+    let put = append_times(
+        out,
+        kept,
+        number(before(putting, b'/')),
+        behind(putting, b'/'),
+    );
+    page::append(out, put, rest)
+}
+
+// Edits the object in the first n bytes of a buffer, where the token names it, and answers its new length.
+fn apply(buffer: &mut [u8], n: usize, name: &[u8], token: &[u8]) -> usize
+    requires { ⌜ n ≤ length (now buffer) ⌝ }
+    ensures { λ r. ⌜ r ≤ length (now (buffer .exit)) ⌝ }
+{
+    if !text::equal(before(token, b':'), name) {
+        return n;
+    }
+    let mut copy = [0u8; 36864];
+    let end = append_edited(&mut copy, text::front(buffer, n), behind(token, b':'));
+    page::append(buffer, 0, text::front(&copy, end))
+}
+
+// Copies an object into a buffer, makes those edits of a line that name it, and answers its length.
+pub(crate) fn edited(buffer: &mut [u8], object: &[u8], name: &[u8], tokens: &[u8]) -> usize
+    ensures { λ r. ⌜ Counts r (now (buffer .exit)) ⌝ }
+{
+    let mut n = page::append(buffer, 0, object);
+    let mut at = 0;
+    while at < tokens.len() {
+        let rest = &tokens[at..];
+        let end = text::position(rest, b' ');
+        n = apply(buffer, n, name, text::front(rest, end));
+        if rest.len() <= end {
+            return n;
+        }
+        at = at + end + 1;
+    }
+    n
+}

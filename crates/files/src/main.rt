@@ -1,0 +1,120 @@
+// Runs whole files through the file call. A case is a line: a name, and edits to a sample; a line is printed for each.
+ghost use Rattle.io.specs.Counts.{Counts};
+
+mod case;
+mod checksum;
+mod edit;
+mod parts;
+
+// The bytes of the answer buffer, where a case says nothing else: as many as 1,025 answers take.
+const ANSWER_ROOM: usize = 16400;
+
+// Reads a file into a buffer, and answers how many bytes of it.
+fn load(path: &[u8], buffer: &mut [u8]) -> usize
+    ensures { λ r. ⌜ Counts r (now (buffer .exit)) ⌝ }
+{
+    let fd = os::open_read(path);
+    if fd < 0 {
+        os::fail(path);
+        return 0;
+    }
+    let n = io::read_full(fd, buffer);
+    libc::close(fd);
+    n
+}
+
+// Fills a buffer with a pattern, so that a byte that is cleared or moved shows.
+fn fill(buffer: &mut [u8]) {
+    let mut i = 0;
+    while i < buffer.len() {
+        buffer[i] = (i % 251) as u8 + 1;
+        i += 1;
+    }
+}
+
+// Runs the cases of a file, one a line.
+fn lines<'a>(
+    cases: &'a [u8],
+    file: &'a [u8],
+    reporters: &'a [u8],
+    currencies: &'a [u8],
+    book: &'a [u8],
+    answers: &'a [u8],
+) {
+    let mut at = 0;
+    while at < cases.len() {
+        let rest = &cases[at..];
+        let end = text::position(rest, b'\n');
+        if rest.len() <= end {
+            return;
+        }
+        case::run(
+            text::front(rest, end),
+            file,
+            reporters,
+            currencies,
+            book,
+            answers,
+        );
+        at = at + end + 1;
+    }
+}
+
+// Runs the cases of the file of that name.
+fn run<'a>(
+    name: &'a [u8],
+    file: &'a [u8],
+    reporters: &'a [u8],
+    currencies: &'a [u8],
+    book: &'a [u8],
+    answers: &'a [u8],
+) {
+    let mut cases = io::large_buffer();
+    let n = load(name, &mut cases);
+    lines(
+        text::front(&cases, n),
+        file,
+        reporters,
+        currencies,
+        book,
+        answers,
+    );
+}
+
+// Runs all files of cases.
+fn run_all<'a>(
+    file: &'a [u8],
+    reporters: &'a [u8],
+    currencies: &'a [u8],
+    book: &'a [u8],
+    answers: &'a [u8],
+) {
+    run(b"cuts.txt", file, reporters, currencies, book, answers);
+    run(b"edges.txt", file, reporters, currencies, book, answers);
+    run(b"forms.txt", file, reporters, currencies, book, answers);
+    run(b"bodies.txt", file, reporters, currencies, book, answers);
+    run(b"limits.txt", file, reporters, currencies, book, answers);
+    run(b"lent.txt", file, reporters, currencies, book, answers);
+    run(b"order.txt", file, reporters, currencies, book, answers);
+    run(b"records.txt", file, reporters, currencies, book, answers);
+}
+
+fn main() {
+    let mut file = [0u8; 1024];
+    let mut table = [0u8; 512];
+    let mut list = [0u8; 1536];
+    let mut book = [0u8; 32768];
+    let mut answers = [0u8; ANSWER_ROOM];
+    let n = load(b"report.edi", &mut file);
+    let rows = load(b"reporters.ref", &mut table);
+    let codes = load(b"currency.ref", &mut list);
+    let m = load(b"ledger.dat", &mut book);
+    fill(&mut answers);
+    run_all(
+        text::front(&file, n),
+        text::front(&table, rows),
+        text::front(&list, codes),
+        text::front(&book, m),
+        &answers,
+    );
+}

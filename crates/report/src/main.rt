@@ -1,0 +1,76 @@
+// Books report.edi into ledger.dat, by reporters.ref and currency.ref, all in the working directory. Saves the new ledger as ledger.new, then
+// prints what became of each record.
+mod load;
+mod save;
+
+use calls::filing::Filed;
+use libc::STDERR_FILENO;
+use libc::STDOUT_FILENO;
+use load::load;
+
+// Room for a report, for 16 reporters, 512 currencies and a ledger, each with a byte more, so that what is too long is refused, and never cut.
+const REPORT_ROOM: usize = 32769;
+
+const REPORTERS_ROOM: usize = 513;
+
+const CURRENCIES_ROOM: usize = 1537;
+
+const LEDGER_ROOM: usize = 32769;
+
+// Room for the answers to 1,024 records, and for the lines that tell of them.
+const ANSWERS_ROOM: usize = 16384;
+
+const PAGE_ROOM: usize = 20505;
+
+// Says on standard error that nothing was booked, and why.
+fn complain(doing: &[u8], path: &[u8]) {
+    io::write_all(STDERR_FILENO, b"nothing was booked: ");
+    io::write_all(STDERR_FILENO, doing);
+    os::fail(path);
+}
+
+// Prints a page up to the end of its text.
+fn print(page: &[u8], end: usize) {
+    if !io::write_all(STDOUT_FILENO, text::front(page, end)) {
+        os::fail(b"standard output");
+    }
+}
+
+// Files the report. The ledger is saved before a line claims that something was booked.
+fn run<'a>(file: &'a [u8], reporters: &'a [u8], currencies: &'a [u8], book: &mut [u8]) {
+    let mut answers = [0u8; ANSWERS_ROOM];
+    let mut page = [0u8; PAGE_ROOM];
+    match calls::filing::file_call(file, reporters, currencies, book, &mut answers) {
+        Filed::Refusal(n) => {
+            let end = results::refused(&mut page, n);
+            print(&page, end);
+        }
+        Filed::Count(n) => {
+            if save::save(book) {
+                let end = results::accepted(&mut page, &answers, n);
+                print(&page, end);
+            }
+        }
+    }
+}
+
+// Reads the four files, and files the report where all of them could be read.
+fn main() {
+    let mut file = [0u8; REPORT_ROOM];
+    let mut table = [0u8; REPORTERS_ROOM];
+    let mut list = [0u8; CURRENCIES_ROOM];
+    let mut book = [0u8; LEDGER_ROOM];
+    let report = load(b"report.edi", &mut file);
+    let reporters = load(b"reporters.ref", &mut table);
+    let currencies = load(b"currency.ref", &mut list);
+    let ledger = load(b"ledger.dat", &mut book);
+    if report.readable & reporters.readable & currencies.readable & ledger.readable {
+        let n = ledger.bytes;
+        run(
+            text::front(&file, report.bytes),
+            text::front(&table, reporters.bytes),
+            text::front(&list, currencies.bytes),
+            &mut book[..n],
+        );
+    }
+}

@@ -1,0 +1,61 @@
+-- Laws of the lines that are printed.
+-- Assumes nothing.
+use Prim.Native.Nat.{ℕ, suc, _+_, _*_, _/_, _≤_, _<_}
+use native.Mathlib.Numerals.{add-one}
+use native.Mathlib.Omega.{arith}
+use mathlib.Core.Bool.{Bool, true, false}
+use mathlib.Core.List.{List, [], _∷_, _++_}
+use mathlib.Core.Path.{_≡_, refl, ap, sym, _∙_}
+use borrow.Author.Tests.{lt-leb, eq-eqb, ne-eqb}
+use lib.Dec.{eqb}
+use lib.ListN.{length}
+use Rattle.frame.specs.Every.{howMany}
+use Rattle.answer.specs.declared.Answer.{Answer}
+use Rattle.answer.specs.Answer.{answerSize, zeroAnswer, answerAt}
+use Rattle.page.specs.Page.{Page, page, written}
+use Rattle.page.specs.Number.{numberText}
+use Rattle.page.proofs.PageLaws.{written-both, written-length}
+use Rattle.results.specs.Results.{rowText, lineText, linesText, isBooked, bookedCount}
+
+-- answers that are not there are all alike
+answer-none : (s : List ℕ) (at : ℕ) → length s < at + answerSize → answerAt at s ≡ zeroAnswer
+unfolding answerAt
+answer-none s at h = rw (lt-leb _ _ h)
+
+pub answer-missing : (s : List ℕ) (k : ℕ) {a : Answer} → length s / answerSize ≤ k → a ≡ answerAt (length s) s → a ≡ answerAt (k * answerSize) s
+answer-missing s k h e = e ∙ answer-none s (length s) (omega arith) ∙ sym (answer-none s (k * answerSize) (omega arith))
+
+-- the row of a reporter, and of none
+pub row-none : (row : ℕ) → row ≡ 255 → rowText row ≡ 45 ∷ []
+unfolding rowText
+row-none row e = rw (eq-eqb row 255 e)
+
+pub row-number : (row : ℕ) → (row ≡ 255 → ⊥) → numberText row ≡ rowText row
+unfolding rowText
+row-number row n = rw (ne-eqb row 255 n)
+
+-- what a loop knows that writes the lines of records: at its start, after one line more, at its end
+pub lines-none : (p : Page) (answers : List ℕ) → p ≡ written p (linesText 0 answers)
+unfolding linesText written
+lines-none p answers = refl
+
+pub lines-more : (p : Page) (answers : List ℕ) (k : ℕ) {q r : Page} {a : Answer} → q ≡ written p (linesText k answers)
+    → a ≡ answerAt (k * answerSize) answers → r ≡ written q (lineText (k + 1) a) → r ≡ written p (linesText (k + 1) answers)
+unfolding linesText
+lines-more p answers k e g f =
+    f ∙ rw (e, g, add-one k) (written-both p (linesText k answers) (lineText (suc k) (answerAt (k * answerSize) answers)))
+
+-- what a count of the booked knows: at its start, after one more, after another
+pub booked-none : (answers : List ℕ) → 0 ≡ bookedCount 0 answers
+unfolding bookedCount howMany
+booked-none answers = refl
+
+module _ (answers : List ℕ) (k : ℕ) {n : ℕ} {a : Answer} (e : n ≡ bookedCount k answers) (g : a ≡ answerAt (k * answerSize) answers) where
+  pub booked-more : a .status ≡ 0 → n + 1 ≡ bookedCount (k + 1) answers
+  unfolding bookedCount howMany
+  booked-more z = rw (add-one k, eq-eqb (answerAt (k * answerSize) answers .status) 0 (sym (ap (λ (x : Answer). x .status) g) ∙ z), e)
+
+  pub booked-same : (a .status ≡ 0 → ⊥) → n ≡ bookedCount (k + 1) answers
+  unfolding bookedCount howMany
+  booked-same z =
+      rw (add-one k, ne-eqb (answerAt (k * answerSize) answers .status) 0 (λ y. z (ap (λ (x : Answer). x .status) g ∙ y))) (omega (arith, e))

@@ -1,0 +1,107 @@
+// The lines that tell of a file call: its refusal, or what became of each record.
+ghost use mathlib.Core.Path.{_≡_};
+ghost use Prim.Native.Nat.{_*_};
+ghost use Rattle.answer.specs.Answer.{answerSize, answerAt};
+ghost use Rattle.page.specs.Page.{page, written};
+ghost use Rattle.results.specs.Results.{rowText, lineText, linesText, bookedCount, acceptedText, refusedText};
+use answer::Answer;
+use failures::Failures;
+use page::append;
+use page::append_code;
+use page::append_number;
+
+const ANSWER_SIZE: usize = 16;
+
+// The row of a record that passes for no bank.
+const NO_REPORTER: u8 = 255;
+
+// The status of a record that is booked.
+const BOOKED: u8 = 0;
+
+// The answer to record k, counted from 0; zeros where it is not there.
+fn answer_to(answers: &[u8], k: usize) -> Answer
+    ensures { λ r. ⌜ r ≡ answerAt (k * answerSize) (now (answers .entry)) ⌝ }
+{
+    if k < answers.len() / ANSWER_SIZE {
+        return answer::read(answers, k * ANSWER_SIZE);
+    }
+    answer::read(answers, answers.len())
+}
+
+// Writes a reporter's row, or - for none.
+fn append_row(out: &mut [u8], at: usize, row: u8) -> usize
+    ensures { λ r. ⌜ page (now (out .exit)) r ≡ written (page (now (out .entry)) at) (rowText row) ⌝ }
+{
+    if row == NO_REPORTER {
+        return append(out, at, b"-");
+    }
+    append_number(out, at, row as u64)
+}
+
+// Writes the line of a record: its number, its first code, its count of failures, its reporter's row.
+fn append_line(out: &mut [u8], at: usize, number: u64, a: Answer) -> usize
+    ensures { λ r. ⌜ page (now (out .exit)) r ≡ written (page (now (out .entry)) at) (lineText number a) ⌝ }
+{
+    let failed = Failures { bits: a.failed };
+    let mut end = append_number(out, at, number);
+    end = append(out, end, b" ");
+    end = append_code(out, end, a.code);
+    end = append(out, end, b" ");
+    end = append_number(out, end, failed.count() as u64);
+    end = append(out, end, b" ");
+    end = append_row(out, end, a.row);
+    append(out, end, b"\n")
+}
+
+// Writes the lines of n records.
+fn append_lines(out: &mut [u8], at: usize, answers: &[u8], n: usize) -> usize
+    ensures { λ r. ⌜ page (now (out .exit)) r ≡ written (page (now (out .entry)) at) (linesText n (now (answers .entry))) ⌝ }
+{
+    let mut end = at;
+    let mut k = 0;
+    while k < n {
+        end = append_line(out, end, k as u64 + 1, answer_to(answers, k));
+        k += 1;
+    }
+    end
+}
+
+// How many of n records are booked.
+fn booked(answers: &[u8], n: usize) -> u64
+    ensures { λ r. ⌜ r ≡ bookedCount n (now (answers .entry)) ⌝ }
+{
+    let mut count = 0;
+    let mut k = 0;
+    while k < n {
+        let a = answer_to(answers, k);
+        if a.status == BOOKED {
+            count += 1;
+            k += 1;
+        } else {
+            k += 1;
+        }
+    }
+    count
+}
+
+// Writes what is printed of a file call that is accepted, with n records.
+pub fn accepted(out: &mut [u8], answers: &[u8], n: usize) -> usize
+    ensures { λ r. ⌜ page (now (out .exit)) r ≡ written (page (now (out .entry)) 0) (acceptedText n (now (answers .entry))) ⌝ }
+{
+    let mut end = append(out, 0, b"records ");
+    end = append_number(out, end, n as u64);
+    end = append(out, end, b"\n");
+    end = append_lines(out, end, answers, n);
+    end = append(out, end, b"booked ");
+    end = append_number(out, end, booked(answers, n));
+    append(out, end, b"\n")
+}
+
+// Writes what is printed of a file call that is refused.
+pub fn refused(out: &mut [u8], n: u8) -> usize
+    ensures { λ r. ⌜ page (now (out .exit)) r ≡ written (page (now (out .entry)) 0) (refusedText n) ⌝ }
+{
+    let mut end = append(out, 0, b"refused ");
+    end = append_number(out, end, n as u64);
+    append(out, end, b"\n")
+}
