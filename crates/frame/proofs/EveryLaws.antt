@@ -1,13 +1,13 @@
--- `every` and the statement that it tests.
+-- `every` and the statement that it tests; what a loop that counts knows of `howMany`.
 -- Assumes nothing.
 use Prim.Native.Nat.{ℕ, zero, suc, _+_, _≤_, _<_}
 use native.Mathlib.Nat.{not-suc-le-zero, le-of-suc-le-suc, eq-or-lt-of-le}
 use native.Mathlib.Numerals.{add-one}
 use native.Mathlib.Omega.{arith}
 use mathlib.Core.Path.{_≡_, refl, subst, sym, _∙_}
-use mathlib.Core.Bool.{Bool, true, false, false≢true}
+use mathlib.Core.Bool.{Bool, true, false, cond, false≢true}
 use mathlib.Core.Logic.{⊎-elim}
-use Rattle.frame.specs.Every.{every}
+use Rattle.frame.specs.Every.{every, howMany}
 use Rattle.frame.proofs.BoolLaws.{and-left, and-right, and-intro}
 
 pub every-at : (n : ℕ) (p : ℕ → Bool) → every n p ≡ true → (k : ℕ) → k < n → p k ≡ true
@@ -49,3 +49,26 @@ every-done n p i h g e = let q : i ≡ n = omega arith in sym (subst (λ (m : �
 
 pub every-broke : (n : ℕ) (p : ℕ → Bool) (i : ℕ) → i < n → p i ≡ false → false ≡ every n p
 every-broke n p i h e = sym (every-fails n p i h e)
+
+-- what a count knows at its start, after a number that passes, and after one that doesn't
+module _ (p : ℕ → Bool) where
+  pub many-none : 0 ≡ howMany 0 p
+  unfolding howMany
+  many-none = refl
+
+  pub many-more : (n k : ℕ) → n ≡ howMany k p → p k ≡ true → n + 1 ≡ howMany (k + 1) p
+  unfolding howMany
+  many-more n k e h = rw (add-one k, h, e)
+
+  pub many-same : (n k : ℕ) → n ≡ howMany k p → p k ≡ false → n ≡ howMany (k + 1) p
+  unfolding howMany
+  many-same n k e h = rw (add-one k, h) (omega arith)
+
+pub many-most : (n : ℕ) (p : ℕ → Bool) → howMany n p ≤ n
+unfolding howMany
+many-most zero p = omega arith
+many-most (suc n) p = go (p n) (many-most n p)
+  where
+    go : (b : Bool) → howMany n p ≤ n → howMany n p + cond b 1 0 ≤ suc n
+    go true h = omega arith
+    go false h = omega arith

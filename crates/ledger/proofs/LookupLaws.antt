@@ -35,20 +35,6 @@ module _ (c : List ℕ) (p : ℕ → Bool) where
   pub row-missing : (k : ℕ) → length c ≡ compartmentSize → rowCount ≤ k → ((j : ℕ) → j < k → p j ≡ false) → rowCount ≡ firstRow c p
   row-missing k l h f = rw (eq-eqb _ _ l) (sym (least-none rowCount p (λ j m. f j (omega arith))))
 
--- what a count knows at its start, after a number that passes, and after one that doesn't
-module _ (p : ℕ → Bool) where
-  pub many-none : 0 ≡ howMany 0 p
-  unfolding howMany
-  many-none = refl
-
-  pub many-more : (n k : ℕ) → n ≡ howMany k p → p k ≡ true → n + 1 ≡ howMany (k + 1) p
-  unfolding howMany
-  many-more n k e h = rw (add-one k, h, e)
-
-  pub many-same : (n k : ℕ) → n ≡ howMany k p → p k ≡ false → n ≡ howMany (k + 1) p
-  unfolding howMany
-  many-same n k e h = rw (add-one k, h) (omega arith)
-
 pub filled-of-none : (c : List ℕ) → (length c ≡ compartmentSize → ⊥) → 0 ≡ filledRows c
 unfolding filledRows
 filled-of-none c n = rw (ne-eqb _ _ n)

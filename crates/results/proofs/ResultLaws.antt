@@ -9,7 +9,7 @@ use mathlib.Core.Path.{_≡_, refl, ap, sym, _∙_}
 use borrow.Author.Tests.{lt-leb, eq-eqb, ne-eqb}
 use lib.Dec.{eqb}
 use lib.ListN.{length}
-use Rattle.frame.specs.Every.{howMany}
+use Rattle.frame.proofs.EveryLaws.{many-none, many-more, many-same}
 use Rattle.answer.specs.declared.Answer.{Answer}
 use Rattle.answer.specs.Answer.{answerSize, zeroAnswer, answerAt}
 use Rattle.page.specs.Page.{Page, page, written}
@@ -47,15 +47,14 @@ lines-more p answers k e g f =
 
 -- what a count of the booked knows: at its start, after one more, after another
 pub booked-none : (answers : List ℕ) → 0 ≡ bookedCount 0 answers
-unfolding bookedCount howMany
-booked-none answers = refl
+unfolding bookedCount
+booked-none answers = many-none (isBooked answers)
 
 module _ (answers : List ℕ) (k : ℕ) {n : ℕ} {a : Answer} (e : n ≡ bookedCount k answers) (g : a ≡ answerAt (k * answerSize) answers) where
   pub booked-more : a .status ≡ 0 → n + 1 ≡ bookedCount (k + 1) answers
-  unfolding bookedCount howMany
-  booked-more z = rw (add-one k, eq-eqb (answerAt (k * answerSize) answers .status) 0 (sym (ap (λ (x : Answer). x .status) g) ∙ z), e)
+  unfolding bookedCount
+  booked-more z = many-more (isBooked answers) n k e (eq-eqb _ 0 (sym (ap (λ (x : Answer). x .status) g) ∙ z))
 
   pub booked-same : (a .status ≡ 0 → ⊥) → n ≡ bookedCount (k + 1) answers
-  unfolding bookedCount howMany
-  booked-same z =
-      rw (add-one k, ne-eqb (answerAt (k * answerSize) answers .status) 0 (λ y. z (ap (λ (x : Answer). x .status) g ∙ y))) (omega (arith, e))
+  unfolding bookedCount
+  booked-same z = many-same (isBooked answers) n k e (ne-eqb _ 0 (λ y. z (ap (λ (x : Answer). x .status) g ∙ y)))

@@ -14,6 +14,7 @@ use lib.Dec.{leb, eqb, lit<}
 use lib.ListN.{length, getD, take, drop, length-append, length-take, length-drop, List·getD-eq-default}
 use lib.Seq.{getD-take, getD-drop, length-take-le}
 use Rattle.frame.specs.Every.{howMany}
+use Rattle.frame.proofs.EveryLaws.{many-most}
 use Rattle.text.specs.Number.{littleEndian, numberAt}
 use Rattle.text.proofs.NumberLaws.{digit-more}
 use Rattle.answer.specs.declared.Answer.{Answer}
@@ -92,20 +93,11 @@ lines-short (suc n) answers h f =
     let before = lines-short n answers (omega arith) f in
     rw length-append (omega arith)
 
-booked-most : (n : ℕ) (p : ℕ → Bool) → howMany n p ≤ n
-unfolding howMany
-booked-most zero p = omega arith
-booked-most (suc n) p = go (p n) (booked-most n p)
-  where
-    go : (b : Bool) → howMany n p ≤ n → howMany n p + cond b 1 0 ≤ suc n
-    go true h = omega arith
-    go false h = omega arith
-
 pub accepted-short : (n : ℕ) (answers : List ℕ) → n ≤ 1024 → areBytes answers → length (acceptedText n answers) ≤ 20505
 unfolding acceptedText bookedCount
 accepted-short n answers h f =
     let one = number-short n (omega arith) in
-    let two = number-short (howMany n (isBooked answers)) (omega (arith, booked-most n (isBooked answers))) in
+    let two = number-short (howMany n (isBooked answers)) (omega (arith, many-most n (isBooked answers))) in
     let lines = lines-short n answers h f in
     simp length-append (omega (arith, one, two, lines))
 

@@ -7,7 +7,8 @@ use borrow.Author.Tests.{eq-eqb, ne-eqb}
 use Rattle.frame.specs.Every.{howMany}
 use Rattle.ledger.specs.Row.{filled}
 use Rattle.ledger.specs.Sound.{rowsOf, rowCount, compartmentSize}
-use Rattle.ledger.proofs.LookupLaws.{many-none, many-more, many-same, filled-of-none, filled-counted}
+use Rattle.frame.proofs.EveryLaws.{many-none, many-more, many-same}
+use Rattle.ledger.proofs.LookupLaws.{filled-of-none, filled-counted}
 use Rattle.ledger.proofs.filled_rows.Statement.{statement}
 use Rattle.ledger.proofs.filled_rows.Tie as tie
 
