@@ -45,7 +45,7 @@ fn is_record(s: &[u8]) -> bool
 }
 
 // The number by which a call is refused, the first that applies; 0 for none.
-fn refusal<'a>(
+pub fn refusal<'a>(
     reporters: &'a [u8],
     currencies: &'a [u8],
     book: &'a [u8],
