@@ -1,8 +1,15 @@
-# make run: books a report, the worked day of examples/day or, with DIR=folder, the one in that folder. make test: the whole gate.
-.PHONY: run test
+# make run: books a report, the worked day of examples/day or, with DIR=folder, the one in that folder.
+# make test: the whole gate. make lib: the library for C and Rust. make bench: the proved code against plain Rust.
+.PHONY: run test lib bench
 
 run:
 	@bash scripts/run $(if $(DIR),"$(DIR)")
 
 test:
 	@bash scripts/test
+
+lib:
+	@rt staticlib capi
+
+bench: lib
+	@bash scripts/bench

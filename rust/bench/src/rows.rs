@@ -1,0 +1,170 @@
+//! The inputs of the benchmark.
+
+pub const ANSWER_SIZE: usize = 16;
+const ROWS: usize = 64;
+const ROW_SIZE: usize = 32;
+const BANKS: usize = 16;
+const LEDGER_SIZE: usize = BANKS * ROWS * ROW_SIZE;
+const CURRENCIES: usize = 180;
+const SENDER: &str = "MBONE";
+
+/// The call of a row.
+#[derive(Clone, Copy)]
+pub enum Call {
+    /// Valid records in a file.
+    File(usize),
+    /// Records of a few bytes in a file.
+    ShortFile(usize),
+    /// One valid record.
+    Single,
+}
+
+/// How many rows of each compartment are filled before the call.
+#[derive(Clone, Copy)]
+pub enum Fill {
+    Empty,
+    Half,
+    Full,
+}
+
+/// One row of the benchmark.
+#[derive(Clone, Copy)]
+pub struct Row {
+    pub name: &'static str,
+    pub call: Call,
+    pub fill: Fill,
+}
+
+const fn row(name: &'static str, call: Call, fill: Fill) -> Row {
+    Row { name, call, fill }
+}
+
+pub const ALL: [Row; 14] = [
+    row("single-empty", Call::Single, Fill::Empty),
+    row("single-full", Call::Single, Fill::Full),
+    row("file-1-empty", Call::File(1), Fill::Empty),
+    row("file-1-half", Call::File(1), Fill::Half),
+    row("file-1-full", Call::File(1), Fill::Full),
+    row("file-60-empty", Call::File(60), Fill::Empty),
+    row("file-60-half", Call::File(60), Fill::Half),
+    row("file-60-full", Call::File(60), Fill::Full),
+    row("file-250-empty", Call::File(250), Fill::Empty),
+    row("file-250-half", Call::File(250), Fill::Half),
+    row("file-250-full", Call::File(250), Fill::Full),
+    row("short-1024-empty", Call::ShortFile(1_024), Fill::Empty),
+    row("short-1024-half", Call::ShortFile(1_024), Fill::Half),
+    row("short-1024-full", Call::ShortFile(1_024), Fill::Full),
+];
+
+/// What a row's call is lent.
+pub struct Inputs {
+    pub reporters: Vec<u8>,
+    pub currencies: Vec<u8>,
+    pub ledger: Vec<u8>,
+    pub sender: Vec<u8>,
+    /// The record of a single call, else the file.
+    pub text: Vec<u8>,
+    pub is_file: bool,
+    /// Records in the text.
+    pub records: usize,
+    /// Records that are to be booked.
+    pub booked: usize,
+}
+
+impl Row {
+    pub fn inputs(&self) -> Inputs {
+        let (text, records, is_file) = match self.call {
+            Call::Single => (valid_record(0).into_bytes(), 1, false),
+            Call::File(count) => (file((0..count).map(valid_record)), count, true),
+            Call::ShortFile(count) => (file((0..count).map(short_record)), count, true),
+        };
+        let booked = match (self.call, self.fill) {
+            (Call::ShortFile(_), _) | (_, Fill::Full) => 0,
+            _ => records,
+        };
+        Inputs {
+            reporters: (0..BANKS).flat_map(reporter).collect(),
+            currencies: currencies(),
+            ledger: ledger(match self.fill {
+                Fill::Empty => 0,
+                Fill::Half => ROWS / 2,
+                Fill::Full => ROWS,
+            }),
+            sender: SENDER.into(),
+            text,
+            is_file,
+            records,
+            booked,
+        }
+    }
+}
+
+/// A reporters row; all banks have the sender's mailbox.
+fn reporter(bank: usize) -> Vec<u8> {
+    let letter = char::from(b'A' + bank as u8);
+    let mut row = format!("98{bank:03}BANK{letter}TW1XXX{SENDER:<8}").into_bytes();
+    row.resize(ROW_SIZE, 0);
+    row
+}
+
+/// 180 codes spread over the alphabet, EUR among them.
+fn currencies() -> Vec<u8> {
+    let mut codes: Vec<[u8; 3]> = (0..CURRENCIES - 1)
+        .map(|k| {
+            let [first, second] = [k * 25 / CURRENCIES, k * 7 % 26].map(|at| b'A' + at as u8);
+            [first, second, b'A' + (k % 26) as u8]
+        })
+        .collect();
+    codes.push(*b"EUR");
+    codes.sort();
+    codes.dedup();
+    assert_eq!(codes.len(), CURRENCIES);
+    codes.concat()
+}
+
+/// A record like R1 of document 01, of one bank after the other.
+fn valid_record(at: usize) -> String {
+    let bank = at % BANKS;
+    let quantity = 1_500 + at;
+    format!(
+        "B;98{bank:03};I;4711;;;B;20130903;101500;;;;;WBAH;J;;;N;S;AT0000831706;XXX;\
+         {quantity};1;EUR;54,7;;;K;;;;;;;;;;N;NEW{at}"
+    )
+}
+
+/// Nothing, or a few bytes.
+fn short_record(at: usize) -> String {
+    ["", "A", ";", "B;98001", "", "test"][at % 6].to_string()
+}
+
+fn file(records: impl Iterator<Item = String>) -> Vec<u8> {
+    let lines: String = records.map(|record| record + "\r\n").collect();
+    format!(
+        "UNB+UNOA:1+{SENDER}+ATBWA+20130903:1015+BENCH1++BWAMS'UNH+BWA+BWA:0'\r\n\
+         {lines}'UNT+3+BWA'UNZ+1+BENCH1'"
+    )
+    .into_bytes()
+}
+
+/// A sound ledger with this many rows in each compartment: live ones, and every fourth row
+/// cancelled by the one after it.
+fn ledger(filled: usize) -> Vec<u8> {
+    let mut ledger = vec![0; LEDGER_SIZE];
+    for compartment in ledger.chunks_mut(ROWS * ROW_SIZE) {
+        for (at, row) in compartment.chunks_mut(ROW_SIZE).take(filled).enumerate() {
+            let number = format!("OLD{at:05}");
+            let (state, partner) = match at % 4 {
+                2 => (2, at as u16 + 1),
+                3 => (3, at as u16 - 1),
+                _ => (1, u16::MAX),
+            };
+            row[0] = state;
+            row[1] = number.len() as u8;
+            row[2..2 + number.len()].copy_from_slice(number.as_bytes());
+            row[18..26].copy_from_slice(&15_000_000u64.to_le_bytes());
+            row[26..28].copy_from_slice(&partner.to_le_bytes());
+            row[28] = b'B';
+        }
+    }
+    ledger
+}

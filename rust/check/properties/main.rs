@@ -1,0 +1,51 @@
+//! Property tests: the proved archive and its twin get the same calls, and every byte that they
+//! leave is compared. Seeds are fixed, so each run makes the same cases.
+//!
+//! The last line printed is `N passed, M failed`; what is counted are groups of up to 1,000 cases,
+//! and one for each place and each refusal that has to be hit.
+
+mod compare;
+mod damage;
+mod files;
+mod lists;
+mod records;
+mod rng;
+mod singles;
+mod tally;
+mod values;
+mod world;
+
+use std::process::ExitCode;
+
+use rng::Rng;
+use tally::Check;
+
+fn main() -> ExitCode {
+    let mut check = Check::new();
+    singles::worked_inputs(&mut check);
+    singles::edited_records(&mut check, &mut Rng::new(1), 100_000);
+    singles::every_byte(&mut check);
+    singles::random_records(&mut check, &mut Rng::new(2), 20_000);
+    singles::refused_records(&mut check, &mut Rng::new(3), 10_000);
+    singles::field_views(&mut check, &mut Rng::new(4), 4_000);
+    lists::lists(&mut check, &mut Rng::new(5), 400);
+    lists::demand_three(&mut check, &mut Rng::new(6), 1_500);
+    files::valid_files(&mut check, &mut Rng::new(7), 2_000);
+    files::every_byte(&mut check);
+    files::edited_files(&mut check, &mut Rng::new(8), 30_000);
+    files::random_files(&mut check, &mut Rng::new(9), 5_000);
+    files::counts_and_lengths(&mut check, &mut Rng::new(10), 20);
+    files::damaged_files(&mut check, &mut Rng::new(11), 200);
+    damage::rules(&mut check, &mut Rng::new(12), 200);
+    damage::precedence(&mut check, &mut Rng::new(13), 2_000);
+    damage::every_byte(&mut check, &mut Rng::new(14));
+    damage::random_bytes(&mut check, &mut Rng::new(15), 10_000);
+
+    let (passed, failed) = check.report();
+    println!("{passed} passed, {failed} failed");
+    if failed == 0 {
+        ExitCode::SUCCESS
+    } else {
+        ExitCode::FAILURE
+    }
+}

@@ -1,0 +1,18 @@
+//! The rules of document 01 in plain safe Rust, written from the paper alone.
+//!
+//! It shares no code with the proved archive: tests compare the two byte for
+//! byte, and the benchmark takes this crate as its yardstick.
+
+#![forbid(unsafe_code)]
+#![warn(missing_docs)]
+
+pub mod calls;
+pub mod checks;
+pub mod envelope;
+pub mod fields;
+pub mod forms;
+pub mod ledger;
+pub mod tables;
+
+pub use calls::{judge_file, judge_record, Refusal};
+pub use fields::field;
