@@ -42,7 +42,7 @@ impl Desk {
         let inputs = row.inputs();
         Desk {
             ledger: inputs.ledger.clone(),
-            answers: vec![0; ANSWER_SIZE * inputs.records],
+            answers: vec![0; ANSWER_SIZE * inputs.room],
             inputs,
         }
     }
@@ -98,12 +98,7 @@ impl Desk {
             .2
             .chunks(ANSWER_SIZE)
             .filter(|answer| answer[11] == 0);
-        let due = if self.inputs.is_file {
-            self.inputs.records as u64
-        } else {
-            0
-        };
-        same && proved.0 == due && booked.count() == self.inputs.booked
+        same && proved.0 == self.inputs.reply && booked.count() == self.inputs.booked
     }
 
     /// Nanoseconds of one call, over a number of calls; the ledger is restored outside of them.

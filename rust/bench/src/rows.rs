@@ -1,5 +1,7 @@
 //! The inputs of the benchmark.
 
+use roselhanda::raw::FILE_REFUSED;
+
 pub const ANSWER_SIZE: usize = 16;
 const ROWS: usize = 64;
 const ROW_SIZE: usize = 32;
@@ -17,6 +19,10 @@ pub enum Call {
     ShortFile(usize),
     /// One valid record.
     Single,
+    /// Valid records in a file, and no room for an answer: refused by 12 once the file is opened.
+    Opened(usize),
+    /// The same with a head that is none: refused by 5, and never opened.
+    Unopened(usize),
 }
 
 /// How many rows of each compartment are filled before the call.
@@ -39,7 +45,7 @@ const fn row(name: &'static str, call: Call, fill: Fill) -> Row {
     Row { name, call, fill }
 }
 
-pub const ALL: [Row; 14] = [
+pub const ALL: [Row; 18] = [
     row("single-empty", Call::Single, Fill::Empty),
     row("single-full", Call::Single, Fill::Full),
     row("file-1-empty", Call::File(1), Fill::Empty),
@@ -48,12 +54,16 @@ pub const ALL: [Row; 14] = [
     row("file-60-empty", Call::File(60), Fill::Empty),
     row("file-60-half", Call::File(60), Fill::Half),
     row("file-60-full", Call::File(60), Fill::Full),
+    row("file-125-empty", Call::File(125), Fill::Empty),
+    row("file-125-half", Call::File(125), Fill::Half),
     row("file-250-empty", Call::File(250), Fill::Empty),
     row("file-250-half", Call::File(250), Fill::Half),
     row("file-250-full", Call::File(250), Fill::Full),
     row("short-1024-empty", Call::ShortFile(1_024), Fill::Empty),
     row("short-1024-half", Call::ShortFile(1_024), Fill::Half),
     row("short-1024-full", Call::ShortFile(1_024), Fill::Full),
+    row("opened-250", Call::Opened(250), Fill::Empty),
+    row("unopened-250", Call::Unopened(250), Fill::Empty),
 ];
 
 /// What a row's call is lent.
@@ -65,22 +75,27 @@ pub struct Inputs {
     /// The record of a single call, else the file.
     pub text: Vec<u8>,
     pub is_file: bool,
-    /// Records in the text.
-    pub records: usize,
+    /// Answers that there is room for.
+    pub room: usize,
+    /// What the call has to return.
+    pub reply: u64,
     /// Records that are to be booked.
     pub booked: usize,
 }
 
 impl Row {
     pub fn inputs(&self) -> Inputs {
-        let (text, records, is_file) = match self.call {
-            Call::Single => (valid_record(0).into_bytes(), 1, false),
-            Call::File(count) => (file((0..count).map(valid_record)), count, true),
-            Call::ShortFile(count) => (file((0..count).map(short_record)), count, true),
+        let valid = |count| file((0..count).map(valid_record));
+        let (text, room, reply) = match self.call {
+            Call::Single => (valid_record(0).into_bytes(), 1, 0),
+            Call::File(count) => (valid(count), count, count as u64),
+            Call::ShortFile(count) => (file((0..count).map(short_record)), count, count as u64),
+            Call::Opened(count) => (valid(count), 0, FILE_REFUSED + 12),
+            Call::Unopened(count) => (without_head(valid(count)), 0, FILE_REFUSED + 5),
         };
         let booked = match (self.call, self.fill) {
             (Call::ShortFile(_), _) | (_, Fill::Full) => 0,
-            _ => records,
+            _ => room,
         };
         Inputs {
             reporters: (0..BANKS).flat_map(reporter).collect(),
@@ -92,8 +107,9 @@ impl Row {
             }),
             sender: SENDER.into(),
             text,
-            is_file,
-            records,
+            is_file: !matches!(self.call, Call::Single),
+            room,
+            reply,
             booked,
         }
     }
@@ -144,6 +160,11 @@ fn file(records: impl Iterator<Item = String>) -> Vec<u8> {
          {lines}'UNT+3+BWA'UNZ+1+BENCH1'"
     )
     .into_bytes()
+}
+
+fn without_head(mut file: Vec<u8>) -> Vec<u8> {
+    file[0] = b'X';
+    file
 }
 
 /// A sound ledger with this many rows in each compartment: live ones, and every fourth row
