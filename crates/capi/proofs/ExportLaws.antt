@@ -1,14 +1,13 @@
 -- Laws of the exported calls: their replies as numbers, and what they leave.
 -- Assumes nothing.
 use Prim.Native.Nat.{ℕ, _≤_, _<_}
-use native.Mathlib.Decide.{ℕ-discrete}
 use native.Mathlib.Omega.{arith}
 use mathlib.Core.Bool.{Bool, true, false, cond}
-use mathlib.Core.List.{List, _++_}
+use mathlib.Core.List.{List}
 use mathlib.Core.Path.{_≡_, refl, ap, sym, _∙_}
 use borrow.Author.Tests.{eq-eqb, ne-eqb, eqb-true, eqb-false, lt-ltb, le-ltb, le-leb, ltb-true, ltb-false}
 use lib.Dec.{eqb, ltb}
-use lib.ListN.{length, drop}
+use lib.ListN.{length}
 use Rattle.frame.specs.Isolation as I
 use Rattle.frame.specs.Isolation.{Outcome, Reply, refused, answer, single}
 use Rattle.frame.proofs.Isolation.{single-refused, single-stranger, single-step}
@@ -26,7 +25,7 @@ use Rattle.calls.specs.Rules.{rules}
 use Rattle.calls.specs.Reply.{outcome}
 use Rattle.calls.specs.Filing.{FileOutcome, fileOutcome, fileOf}
 use Rattle.calls.proofs.CallLaws.{refusal-is}
-use Rattle.capi.specs.Exported.{Exported, exported, shortNumber, recordReply, recordExport, filedNumber, fileExport, fieldExport}
+use Rattle.capi.specs.Exported.{exported, shortNumber, recordReply, recordExport, filedNumber, fileExport, fieldExport}
 
 -- a call whose buffer is too short: its own refusal, else 12
 pub short-refused : {n m r : ℕ} → n ≡ r → (n ≡ 0 → ⊥) → m ≡ n → m ≡ shortNumber r

@@ -13,7 +13,7 @@ use Rattle.calls.specs.Call.{called}
 use Rattle.calls.specs.Rules.{rules}
 use Rattle.calls.specs.declared.filing.Filed.{Filed}
 use Rattle.calls.specs.declared.filing.Filed.the-variants.{Refusal, Count}
-use Rattle.calls.specs.Filing.{FileOutcome, fileOf}
+use Rattle.calls.specs.Filing.{fileOf}
 
 -- the number that is returned, and the lent ledger and buffer as the call leaves them
 pub record Exported : Type 0 where

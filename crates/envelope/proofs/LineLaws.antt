@@ -1,14 +1,12 @@
 -- Laws of the lines of a body: the record at a place, then the records from its line's end; and the count of records up to the first apostrophe.
 -- Assumes nothing.
 use Prim.Native.Nat.{ℕ, zero, suc, _+_, _-_, _<_, _≤_}
-use Prim.Native.Char.{code}
 use mathlib.Core.Bool.{Bool, true, false, _&&_, not, cond, false≢true}
 use mathlib.Core.List.{List, [], _∷_}
 use mathlib.Core.Path.{_≡_, refl, ap, sym, _∙_}
 use native.Mathlib.Nat.{zero-add, suc-add, le-of-suc-le-suc}
-use native.Mathlib.Numerals.{add-one}
 use native.Mathlib.Omega.{arith}
-use borrow.Author.Tests.{eq-eqb, ne-eqb, eqb-true, le-leb, lt-leb}
+use borrow.Author.Tests.{ne-eqb, eqb-true, le-leb, lt-leb}
 use lib.Dec.{eqb, leb}
 use lib.ListN.{length, take, drop, getD, length-drop, drop-of-length-le}
 use lib.Seq.{drop-cons, drop-drop, take-take, take-nil, length-take-le}
@@ -16,14 +14,12 @@ use Rattle.frame.proofs.BoolLaws.{and-left, and-right, and-false}
 use Rattle.text.specs.declared.Class.{Class}
 use Rattle.text.specs.declared.Class.the-variants.{RecordByte, BodyByte}
 use Rattle.text.specs.Class.{belongsTo, isRecordByte, isBodyByte}
-use Rattle.text.specs.Bytes.{all}
-use Rattle.envelope.specs.declared.Piece.{Piece}
 use Rattle.envelope.specs.declared.Piece.the-variants.{EndsAt, Missing}
 use Rattle.envelope.specs.declared.Body.{Body}
 use Rattle.envelope.specs.declared.Body.the-variants.{Counted, Broken}
 use Rattle.envelope.specs.Pieces.{between, runOf, begins, textEnd, onPiece}
 use Rattle.envelope.specs.Body.{Records, broken, records, withRecord, withByte, crlf, recordsOf, lineEnd, recordAt, apostropheFrom, counted, linesAt}
-use Rattle.envelope.proofs.PieceLaws.{run-within, run-all, missing-ends, picked, text-found}
+use Rattle.envelope.proofs.PieceLaws.{run-within, missing-ends, picked, text-found}
 
 -- the records of l, whose first line is at its front
 abbrev Stepped : List ℕ → Type 0
@@ -84,10 +80,6 @@ line-placed s p q h e =
     let f : runOf RecordByte (drop p s) ≤ length s - p = rw length-drop at (run-within RecordByte (drop p s)) in
     text-found s (p + runOf RecordByte (drop p s)) q (omega arith) crlf e
 
--- a record has no CR, LF or apostrophe
-pub record-formed : (s : List ℕ) (p : ℕ) → all isRecordByte (recordAt s p) ≡ true
-record-formed s p = run-all RecordByte (drop p s)
-
 -- The body is read in one pass, up to the first apostrophe: a line of the file before it is a line of the body.
 run-record : (l : List ℕ) → runOf BodyByte l ≡ runOf RecordByte l + runOf BodyByte (drop (runOf RecordByte l) l)
 unfolding runOf
@@ -144,10 +136,6 @@ drop-taken : (n m : ℕ) (l : List ℕ) → drop n (take (n + m) l) ≡ take m (
 drop-taken zero m l = rw (zero-add m) refl
 drop-taken (suc n) m [] = rw (take-nil (suc n + m), take-nil m) refl
 drop-taken (suc n) m (x ∷ l) = rw (suc-add n m) (drop-taken n m l)
-
--- the records up to the first apostrophe of l
-abbrev recordsBefore : List ℕ → Records
-recordsBefore l = recordsOf (take (runOf BodyByte l) l)
 
 module _ (l : List ℕ) where
   -- the length of its first record, and of the body from the end of that

@@ -2,20 +2,19 @@
 -- Assumes nothing.
 use Prim.Native.Nat.{ℕ, _+_, _-_, _<_, _≤_, zero-le}
 use mathlib.Core.Bool.{Bool, true, false, _&&_, cond}
-use mathlib.Core.List.{List, [], _∷_}
+use mathlib.Core.List.{List}
 use mathlib.Core.Path.{_≡_, refl, ap, sym, subst, _∙_}
 use native.Mathlib.Omega.{arith}
-use borrow.Author.Tests.{le-leb, leb-true, leb-false, eqb-true, ltb-false}
+use borrow.Author.Tests.{le-leb, leb-false, eqb-true, ltb-false}
 use lib.Dec.{eqb, leb, ltb}
-use lib.ListN.{length, take, drop, length-drop}
+use lib.ListN.{length, take, drop}
 use lib.Seq.{length-take-le}
-use Rattle.frame.proofs.BoolLaws.{and-intro}
 use Rattle.text.specs.declared.Class.the-variants.{CapitalOrDigit}
 use Rattle.text.specs.Bytes.{same}
 use Rattle.text.specs.Text.{bytes}
 use Rattle.identifier.specs.Identifier.{nameUpTo}
 use Rattle.calendar.specs.Calendar.{realDate, realMinute}
-use Rattle.envelope.specs.declared.Piece.the-variants.{EndsAt, Missing}
+use Rattle.envelope.specs.declared.Piece.the-variants.{EndsAt}
 use Rattle.envelope.specs.declared.Parts.{Parts}
 use Rattle.envelope.specs.declared.Head.{Head}
 use Rattle.envelope.specs.declared.Head.the-variants.{Read, Unread}
@@ -23,12 +22,11 @@ use Rattle.envelope.specs.declared.Span.{Span}
 use Rattle.envelope.specs.declared.Body.{Body}
 use Rattle.envelope.specs.declared.Body.the-variants.{Counted, Broken}
 use Rattle.envelope.specs.declared.Layout.{Layout}
-use Rattle.envelope.specs.declared.Opened.{Opened}
 use Rattle.envelope.specs.declared.Opened.the-variants.{Report, Refused}
 use Rattle.envelope.specs.Pieces.{between, runOf, textEnd, partThen}
 use Rattle.envelope.specs.Body.{Records, broken, records, crlf, recordsOf, apostropheFrom, counted, linesAt, bodyAt}
-use Rattle.envelope.specs.Envelope.{recordCountLimit, headOf, tailOf, Ordered, onHead, onBody, report, countStage, wordStage, tailStage, bodyStage}
-use Rattle.envelope.specs.Envelope.{receiverStage, dateStage, openedAs, senderOf, listed, recordsFrom}
+use Rattle.envelope.specs.Envelope.{recordCountLimit, headOf, tailOf, Ordered, onHead, onBody, report, wordStage, tailStage, bodyStage}
+use Rattle.envelope.specs.Envelope.{dateStage, openedAs, senderOf, listed, recordsFrom}
 use Rattle.envelope.proofs.PieceLaws.{run-within, run-all, missing-ends, found-piece, picked, text-found, part-found, then-found}
 
 unread-read : (h : Parts) → Unread ≡ Read h → ⊥

@@ -1,13 +1,13 @@
 -- What was written is read back at its place: a text, a part, the records of a body, and a whole envelope.
 -- Assumes nothing.
-use Prim.Native.Nat.{ℕ, suc, _+_, _-_, _<_, _≤_, zero-le}
+use Prim.Native.Nat.{ℕ, suc, _+_, _-_, _<_, _≤_}
 use mathlib.Core.Bool.{Bool, true, false, _&&_, not, cond}
 use mathlib.Core.List.{List, [], _∷_, _++_, append-assoc}
 use mathlib.Core.Path.{_≡_, refl, ap, sym, _∙_}
 use native.Mathlib.Omega.{arith}
 use borrow.Author.Tests.{eq-eqb, le-leb, lt-leb, le-ltb, leb-true, eqb-true}
-use lib.Dec.{eqb, leb, ltb}
-use lib.ListN.{length, take, drop, length-append, length-drop}
+use lib.Dec.{eqb, leb}
+use lib.ListN.{length, drop, length-drop}
 use lib.Seq.{drop-append-seam, take-append-seam, drop-drop}
 use Rattle.frame.proofs.BoolLaws.{and-left, and-right, and-intro}
 use Rattle.text.specs.declared.Class.{Class}
@@ -18,14 +18,14 @@ use Rattle.text.specs.Text.{bytes}
 use Rattle.text.proofs.ByteLaws.{same-refl}
 use Rattle.identifier.specs.Identifier.{nameUpTo}
 use Rattle.calendar.specs.Calendar.{digitsExactly, realDate, realMinute}
-use Rattle.envelope.specs.declared.Piece.the-variants.{EndsAt, Missing}
+use Rattle.envelope.specs.declared.Piece.the-variants.{EndsAt}
 use Rattle.envelope.specs.declared.Parts.{Parts}
 use Rattle.envelope.specs.declared.Span.{Span}
 use Rattle.envelope.specs.declared.Body.the-variants.{Counted}
 use Rattle.envelope.specs.declared.Layout.{Layout}
 use Rattle.envelope.specs.declared.Opened.the-variants.{Report}
 use Rattle.envelope.specs.Pieces.{between, runOf, begins, textEnd, partEnd, partThen}
-use Rattle.envelope.specs.Body.{Records, records, crlf, recordsOf, apostropheFrom, linesAt, bodyAt}
+use Rattle.envelope.specs.Body.{records, crlf, recordsOf, linesAt, bodyAt}
 use Rattle.envelope.specs.Envelope.{recordCountLimit, headOf, tailOf, report, bodyStage, openedAs, senderOf, listed, recordsFrom}
 use Rattle.envelope.specs.Written.{Envelope, Formed, ReadsBack, linesThen, written, controlWord, allRecords}
 

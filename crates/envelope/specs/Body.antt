@@ -1,14 +1,13 @@
 -- The body of an envelope (document 01, "Envelope"): CR LF, then up to the first apostrophe records, each with CR LF behind it.
 -- Assumes nothing.
 use Prim.Native.Nat.{ℕ, _+_}
-use mathlib.Core.Bool.{Bool, cond}
+use mathlib.Core.Bool.{cond}
 use mathlib.Core.List.{List, [], _∷_}
 use lib.Dec.{leb}
 use lib.ListN.{length, take, drop}
 use Rattle.text.specs.declared.Class.the-variants.{RecordByte, BodyByte}
 use Rattle.text.specs.Class.{isRecordByte}
 use Rattle.envelope.specs.declared.Piece.{Piece}
-use Rattle.envelope.specs.declared.Span.{Span}
 use Rattle.envelope.specs.declared.Body.{Body}
 use Rattle.envelope.specs.declared.Body.the-variants.{Counted, Broken}
 use Rattle.envelope.specs.Pieces.{between, runOf, begins, textEnd, onPiece}

@@ -1,7 +1,7 @@
 -- "Envelope" of document 01: the head, the body and the tail of a report file, and refusals 5 to 11, one stage each, in the order of the table.
 -- Assumes nothing.
 use Prim.Native.Nat.{ℕ, _-_, _<_, _≤_}
-use mathlib.Core.Bool.{Bool, true, false, _&&_, not, cond}
+use mathlib.Core.Bool.{_&&_, cond}
 use mathlib.Core.List.{List, []}
 use lib.Dec.{eqb, ltb}
 use lib.ListN.{length}

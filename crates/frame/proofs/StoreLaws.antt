@@ -3,10 +3,10 @@
 use Prim.Native.Nat.{ℕ, _+_, _<_}
 use native.Mathlib.Decide.{ℕ-discrete}
 use native.Mathlib.Omega.{arith}
-use mathlib.Core.Path.{_≡_, ap, sym, _∙_}
-use mathlib.Core.List.{List, _++_, append-nil, append-assoc}
-use lib.ListN.{length, getD, take, drop, set, drop-of-length-le}
-use lib.Seq.{getD-set-same, getD-set-other, sets, sets-eq, take-at, drop-at}
+use mathlib.Core.Path.{_≡_, sym, _∙_}
+use mathlib.Core.List.{List, _++_, append-assoc}
+use lib.ListN.{length, getD, take, drop, set}
+use lib.Seq.{getD-set-same, getD-set-other, take-at, drop-at}
 
 -- one more place of s holds what t has there
 pub store-more : (s t : List ℕ) (i v : ℕ) → i < length s → v ≡ getD t i 0 → ((k : ℕ) → k < i → getD s k 0 ≡ getD t k 0) → (k : ℕ) → k < i + 1
@@ -16,13 +16,6 @@ store-more s t i v h e f k kh = go (ℕ-discrete k i)
     go : Dec (k ≡ i) → getD (set s i v) k 0 ≡ getD t k 0
     go (yes q) = rw (q, getD-set-same s i v 0 h) e
     go (no ne) = getD-set-other s i k v 0 ne ∙ f k (omega arith)
-
--- stores to every place, from the first on
-pub sets-all : (vs l : List ℕ) → length l ≡ length vs → sets l 0 vs ≡ vs
-sets-all vs l e =
-    sets-eq vs l 0 (omega arith)
-    ∙ ap (λ (d : List ℕ). vs ++ d) (drop-of-length-le l {i = 0 + length vs} (omega arith))
-    ∙ append-nil vs
 
 -- a part that is filled behind what is done already
 pub extend : (d r ys : List ℕ) (a k : ℕ) → length d ≡ a → take a (d ++ r) ++ (ys ++ drop k (drop a (d ++ r))) ≡ (d ++ ys) ++ drop k r
