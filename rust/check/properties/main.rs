@@ -23,6 +23,7 @@ use tally::Check;
 fn main() -> ExitCode {
     let mut check = Check::new();
     singles::worked_inputs(&mut check);
+    singles::published_isins(&mut check);
     singles::edited_records(&mut check, &mut Rng::new(1), 100_000);
     singles::every_byte(&mut check);
     singles::random_records(&mut check, &mut Rng::new(2), 20_000);

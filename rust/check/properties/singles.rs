@@ -78,6 +78,34 @@ pub fn worked_inputs(check: &mut Check) {
     });
 }
 
+/// ISINs with a verdict from outside (python-stdnum 1.18), as instrument and as underlying.
+pub fn published_isins(check: &mut Check) {
+    check.section("single calls: ISINs judged elsewhere");
+    let world = World::worked();
+    let ledger = vec![0; LEDGER_SIZE];
+    for line in include_str!("../../../crates/vectors/data/isin.txt").lines() {
+        let (isin, verdict) = line.split_once(' ').expect("an ISIN and its verdict");
+        let is_wrong = u64::from(verdict != "1");
+        let mut instrument = Record::parse(R1);
+        instrument.set(20, isin);
+        let mut underlying = Record::parse(R1);
+        underlying.set(21, "XXZ");
+        underlying.set(33, format!("S{isin}"));
+        for (record, due) in [(instrument, is_wrong << 29), (underlying, is_wrong << 53)] {
+            let left = check.record(&RecordCall {
+                reporters: &world.reporters,
+                currencies: &world.currencies,
+                ledger: &ledger,
+                sender: b"MBONE",
+                record: &record.to_bytes(),
+                room: 16,
+            });
+            let set = set_of(&left.answers);
+            check.case(set == due, || format!("{line} gives the set {set:x}"));
+        }
+    }
+}
+
 /// Chains of records, each one edit away from the one before, on one ledger.
 pub fn edited_records(check: &mut Check, rng: &mut Rng, chains: usize) {
     check.section("single calls: valid and edited records");

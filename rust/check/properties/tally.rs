@@ -295,7 +295,7 @@ pub fn set_of(answer: &[u8]) -> u64 {
     u64::from_le_bytes(*answer.first_chunk().expect("an answer has 16 bytes"))
 }
 
-/// The decoded answer, with the parts that depend on one another compared.
+/// An answer record in Rust's types.
 pub fn decoded(answer: &[u8]) -> Option<Answer> {
     Answer::from_bytes(answer.first_chunk()?)
 }
