@@ -28,7 +28,9 @@ same-length-2 : tie.Need-same-length-2
 same-length-2 c = search needs
 
 returns : tie.Need-returns
-returns c = file-exported _ _ _ _ _ _ _ (c .before .before .before .before .before .before .before .file-call .ensures) (ap filedNumber (sym (c .before .n .given .1)))
+returns c =
+    let back7 = c .before .before .before .before .before .before .before in
+    file-exported _ _ _ _ _ _ _ (back7 .file-call .ensures) (ap filedNumber (sym (c .before .n .given .1)))
 
 same-length-3 : tie.Need-same-length-3
 same-length-3 c = search needs
@@ -38,7 +40,9 @@ same-length-4 c = search needs
 
 returns-2 : tie.Need-returns-2
 returns-2 c =
-    file-exported _ _ _ _ _ _ _ (c .before .before .before .before .before .before .before .before .file-call .ensures) (ap (λ (x : ℕ). 65536 + x) (c .wide .ensures) ∙ ap filedNumber (sym (c .before .before .n2 .given .1)))
+    let back8 = c .before .before .before .before .before .before .before .before in
+    let number = ap (λ (x : ℕ). 65536 + x) (c .wide .ensures) ∙ ap filedNumber (sym (c .before .before .n2 .given .1)) in
+    file-exported _ _ _ _ _ _ _ (back8 .file-call .ensures) number
 
 pub roselhanda-file-spec : {M : Type 1} → statement M
 roselhanda-file-spec =

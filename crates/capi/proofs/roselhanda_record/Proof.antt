@@ -31,7 +31,9 @@ same-length-2 : tie.Need-same-length-2
 same-length-2 c = search needs
 
 returns-2 : tie.Need-returns-2
-returns-2 c = refused-exported _ _ _ _ _ _ _ (c .before .before .n .given .1) (c .before .before .before .before .before .before .record-call .ensures) (c .wide .ensures)
+returns-2 c =
+    let back6 = c .before .before .before .before .before .before in
+    refused-exported _ _ _ _ _ _ _ (c .before .before .n .given .1) (back6 .record-call .ensures) (c .wide .ensures)
 
 same-length-3 : tie.Need-same-length-3
 same-length-3 c = search needs
@@ -40,7 +42,11 @@ same-length-4 : tie.Need-same-length-4
 same-length-4 c = search needs
 
 returns-3 : tie.Need-returns-3
-returns-3 c = answered-exported _ _ _ _ _ _ _ _ (c .before .before .before .before .before .before .before .before .before .before .before .if1 .left) (c .before .before .before .before .before .a .given .1) (c .before .before .before .before .before .before .before .before .before .record-call .ensures) (c .before .before .write .ensures)
+returns-3 c =
+    let back5 = c .before .before .before .before .before in
+    let back9 = back5 .before .before .before .before in
+    let back11 = back9 .before .before in
+    answered-exported _ _ _ _ _ _ _ _ (back11 .if1 .left) (back5 .a .given .1) (back9 .record-call .ensures) (c .before .before .write .ensures)
 
 pub roselhanda-record-spec : {M : Type 1} → statement M
 roselhanda-record-spec =

@@ -83,7 +83,7 @@ returns-3 c =
     rw (
       sym (back11 .read-body .ensures) ∙ (back9 .b .given .1),
       sym (back7 .read-tail .ensures) ∙ (back5 .last .given .1),
-      sym (c .before .equal .ensures) ∙ not-true _ (c .if1 .taken),
+      sym (c .before .equal .ensures) ∙ not-true (c .before .equal .result) (c .if1 .taken),
     )
 
 returns-4 : tie.Need-returns-4
@@ -96,7 +96,7 @@ returns-4 c =
     rw (
       sym (back13 .read-body .ensures) ∙ (back11 .b .given .1),
       sym (back9 .read-tail .ensures) ∙ (back7 .last .given .1),
-      sym (c .before .before .before .equal .ensures) ∙ not-false _ (c .before .before .if1 .left),
+      sym (c .before .before .before .equal .ensures) ∙ not-false (c .before .before .before .equal .result) (c .before .before .if1 .left),
       lt-ltb _ _ (c .if2 .taken),
     )
 
@@ -114,7 +114,7 @@ returns-5 c =
     rw (
       sym (back14 .read-body .ensures) ∙ (back12 .b .given .1),
       sym (back10 .read-tail .ensures) ∙ (back8 .last .given .1),
-      sym (back4 .equal .ensures) ∙ not-false _ (c .before .before .before .if1 .left),
+      sym (back4 .equal .ensures) ∙ not-false (back4 .equal .result) (c .before .before .before .if1 .left),
       le-ltb _ _ (c .before .if2 .left),
     )
 
