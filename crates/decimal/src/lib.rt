@@ -50,7 +50,7 @@ fn power(n: usize) -> u64
 fn is_digits(s: &[u8], most: usize) -> bool
     ensures { λ r. ⌜ r ≡ digitsUpTo most (now (s .entry)) ⌝ }
 {
-    (1 <= s.len()) & (s.len() <= most) & text::all(Class::Digit, s)
+    ((1 <= s.len()) & (s.len() <= most)) && text::all(Class::Digit, s)
 }
 
 // The value of a digit.

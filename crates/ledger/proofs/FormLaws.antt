@@ -13,7 +13,7 @@ use Rattle.frame.proofs.BoolLaws.{and-left, and-right, and-intro, and-assoc}
 use Rattle.text.specs.Class.{isZero, isCapitalOrDigit}
 use Rattle.text.specs.Bytes.{all, same, positionOf}
 use Rattle.text.specs.Number.{littleEndian, numberAt}
-use Rattle.text.proofs.ByteLaws.{same-true, same-refl}
+use Rattle.text.proofs.ByteLaws.{isByte, all-append, all-weaker, same-true, same-refl}
 use Rattle.identifier.specs.Identifier.{nameUpTo}
 use Rattle.ledger.specs.Row.{rowSize, live, cancellation, numberPlace, numberRoom, largestQuantity, zerosPlace, isSide}
 use Rattle.ledger.specs.Row.{state, numberLength, number, numberPadding, quantity, side, rowForm}
@@ -23,19 +23,6 @@ pub both-ways : (a b : Bool) → (a ≡ true → b ≡ true) → (b ≡ true →
 both-ways true b f g = sym (f refl)
 both-ways false true f g = g refl
 both-ways false false f g = refl
-
-all-append : (p : ℕ → Bool) (s t : List ℕ) → all p (s ++ t) ≡ all p s && all p t
-unfolding all
-all-append p [] t = refl
-all-append p (x ∷ s) t = rw (all-append p s t) (and-assoc (p x) _ _)
-
-all-weaker : (p q : ℕ → Bool) → ((b : ℕ) → p b ≡ true → q b ≡ true) → (s : List ℕ) → all p s ≡ true → all q s ≡ true
-unfolding all
-all-weaker p q f [] h = refl
-all-weaker p q f (x ∷ s) h = and-intro (q x) _ (f x (and-left (p x) _ h)) (all-weaker p q f s (and-right (p x) _ h))
-
-abbrev isByte : ℕ → Bool
-isByte b = ltb b 256
 
 zero-byte : (b : ℕ) → isZero b ≡ true → isByte b ≡ true
 zero-byte b h = let e : b ≡ 0 = eqb-true b 0 h in lt-ltb b 256 (omega arith)

@@ -1,37 +1,67 @@
 -- Laws of the tests and searches over a list of bytes: what a loop over the list uses, and what callers use.
 -- Assumes nothing.
-use Prim.Native.Nat.{ℕ, zero, suc, _+_, _-_, _<_, _≤_, zero-le, suc-le-suc}
+use Prim.Native.Nat.{ℕ, zero, suc, _+_, _-_, _*_, _<_, _≤_, zero-le, suc-le-suc}
 use mathlib.Core.Bool.{Bool, true, false, _&&_, cond, false≢true}
 use mathlib.Core.List.{List, [], _∷_, _++_}
 use mathlib.Core.Path.{_≡_, refl, ap, sym, _∙_}
-use native.Mathlib.Nat.{not-suc-le-zero, le-of-suc-le-suc, le-of-eq}
+use native.Mathlib.Nat.{not-suc-le-zero, le-of-suc-le-suc, le-of-eq, zero-mul, suc-mul}
 use native.Mathlib.Numerals.{add-one}
 use native.Mathlib.Omega.{arith}
 use borrow.Author.Tests.{eq-eqb, ne-eqb, eqb-true, eqb-false, leb-true}
 use lib.Bits.{bitOr, or-zero-l, or-add-and, and-le-r}
-use lib.Dec.{eqb, leb}
-use lib.ListN.{length, getD, take, drop, length-drop, drop-of-length-le}
-use lib.Seq.{drop-cons, take-all}
+use lib.Dec.{eqb, leb, ltb}
+use lib.ListN.{length, getD, take, drop, length-drop, drop-of-length-le, take-append-drop}
+use lib.Seq.{drop-cons, drop-drop, take-all, take-add}
+use Rattle.frame.specs.Every.{every}
+use Rattle.frame.specs.Parts.{part}
 use Rattle.frame.proofs.BoolLaws.{and-left, and-right, and-intro, and-false, and-true, and-assoc}
 use Rattle.text.specs.Class.{isDigit, isZero}
 use Rattle.text.specs.Bytes.{all, same, positionOf, countOf}
 
--- the laws that a loop over the list uses. What is still to be found out at place i is the test of the rest, from i
-pub all-go : (p : ℕ → Bool) (s : List ℕ) (i : ℕ) {r : Bool} → all p s ≡ all p (drop i s) → i < length s → r ≡ p (getD s i 0) → r ≡ true
-    → all p s ≡ all p (drop (i + 1) s)
-unfolding all
-all-go p s i e h q t = e ∙ rw (add-one, drop-cons s i 0, ← q, t) refl
+abbrev pub isByte : ℕ → Bool
+isByte b = ltb b 256
 
-pub all-stop : (p : ℕ → Bool) (s : List ℕ) (i : ℕ) {r : Bool} → all p s ≡ all p (drop i s) → i < length s → r ≡ p (getD s i 0) → r ≡ false
-    → false ≡ all p s
-unfolding all
-all-stop p s i e h q t = sym (e ∙ rw (drop-cons s i 0, ← q, t) refl)
+-- bits put together are none where each is none
+or-none : (a b : ℕ) → eqb (bitOr a b) 0 ≡ eqb a 0 && eqb b 0
+or-none a b = go (eqb a 0) refl
+  where
+    go : (x : Bool) → eqb a 0 ≡ x → eqb (bitOr a b) 0 ≡ x && eqb b 0
+    go true e = rw (eqb-true a 0 e, or-zero-l b) refl
+    go false e = ne-eqb (bitOr a b) 0 (λ z. eqb-false a 0 e (omega (arith, z, or-add-and a b, and-le-r a b)))
 
-pub all-end : (p : ℕ → Bool) (s : List ℕ) (i : ℕ) → all p s ≡ all p (drop i s) → length s ≤ i → true ≡ all p s
-unfolding all
-all-end p s i e h = sym (e ∙ rw (drop-of-length-le s h) refl)
+-- what a loop knows that puts marks together, of which those of bytes that pass are 0: every byte passes where no mark is set and the rest passes
+module _ (p : ℕ → Bool) (s : List ℕ) (i marks : ℕ) (e : all p s ≡ eqb marks 0 && all p (drop i s)) where
+  pub marks-go : (m : ℕ) → i < length s → eqb m 0 ≡ p (getD s i 0) → all p s ≡ eqb (bitOr marks m) 0 && all p (drop (i + 1) s)
+  unfolding all
+  marks-go m h q = e ∙ rw (add-one, drop-cons s i 0, ← q, or-none marks m) (and-assoc (eqb marks 0) _ _)
 
--- the same for two lists of one length
+  pub marks-end : length s ≤ i → eqb marks 0 ≡ all p s
+  unfolding all
+  marks-end h = sym (e ∙ rw (drop-of-length-le s h) (and-true (eqb marks 0)))
+
+-- two lists put together pass where both do; a list where its front and its rest do
+pub all-append : (p : ℕ → Bool) (s t : List ℕ) → all p (s ++ t) ≡ all p s && all p t
+unfolding all
+all-append p [] t = refl
+all-append p (x ∷ s) t = rw (all-append p s t) (and-assoc (p x) _ _)
+
+pub all-split : (p : ℕ → Bool) (n : ℕ) (s : List ℕ) → all p s ≡ all p (take n s) && all p (drop n s)
+all-split p n s = ap (all p) (sym (take-append-drop n s)) ∙ all-append p (take n s) (drop n s)
+
+-- what a loop over blocks knows: what is still to be found out at place i is the test of the rest; r is that of the block from i to j
+module _ (p : ℕ → Bool) (s : List ℕ) (i j : ℕ) (e : all p s ≡ all p (drop i s)) (h : i ≤ j) {r : Bool} (t : r ≡ all p (take (j - i) (drop i s))) where
+  block-and-rest : all p s ≡ r && all p (drop j s)
+  block-and-rest =
+      let next : i + (j - i) ≡ j = omega arith in
+      e ∙ all-split p (j - i) (drop i s) ∙ rw (← t, drop-drop, next) refl
+
+  pub block-go : r ≡ true → all p s ≡ all p (drop j s)
+  block-go q = block-and-rest ∙ rw q refl
+
+  pub block-stop : r ≡ false → false ≡ all p s
+  block-stop q = sym (block-and-rest ∙ rw q refl)
+
+-- what a loop over two lists of one length knows at place i: they are the same where their rests from i on are
 module _ (s t : List ℕ) (i : ℕ) (l : length s ≡ length t) (e : same s t ≡ same (drop i s) (drop i t)) where
   pub same-go : i < length s → getD s i 0 ≡ getD t i 0 → same s t ≡ same (drop (i + 1) s) (drop (i + 1) t)
   unfolding same
@@ -99,23 +129,6 @@ module _ (b : ℕ) (s : List ℕ) (i n : ℕ) (e : countOf b s ≡ n + countOf b
       let q : countOf b (drop i s) ≡ 0 = rw (drop-of-length-le s h) refl in
       omega (arith, q)
 
--- bits put together are none where each is none
-or-none : (a b : ℕ) → eqb (bitOr a b) 0 ≡ eqb a 0 && eqb b 0
-or-none a b = go (eqb a 0) refl
-  where
-    go : (x : Bool) → eqb a 0 ≡ x → eqb (bitOr a b) 0 ≡ x && eqb b 0
-    go true e = rw (eqb-true a 0 e, or-zero-l b) refl
-    go false e = ne-eqb (bitOr a b) 0 (λ z. eqb-false a 0 e (omega (arith, z, or-add-and a b, and-le-r a b)))
-
-module _ (s : List ℕ) (i bits : ℕ) (e : all isZero s ≡ eqb bits 0 && all isZero (drop i s)) where
-  pub zero-go : i < length s → all isZero s ≡ eqb (bitOr bits (getD s i 0)) 0 && all isZero (drop (i + 1) s)
-  unfolding all
-  zero-go h = e ∙ rw (add-one, drop-cons s i 0, or-none bits (getD s i 0)) (and-assoc (eqb bits 0) _ _)
-
-  pub zero-end : length s ≤ i → eqb bits 0 ≡ all isZero s
-  unfolding all
-  zero-end h = sym (e ∙ rw (drop-of-length-le s h) (and-true (eqb bits 0)))
-
 -- what every byte passes, the byte at i passes
 pub all-get : (p : ℕ → Bool) (s : List ℕ) (i : ℕ) → all p s ≡ true → i < length s → p (getD s i 0) ≡ true
 unfolding all
@@ -123,12 +136,21 @@ all-get p [] i e h = absurd (not-suc-le-zero h)
 all-get p (x ∷ xs) zero e h = and-left _ _ e
 all-get p (x ∷ xs) (suc i) e h = all-get p xs i (and-right (p x) _ e) (le-of-suc-le-suc h)
 
--- a list passes where its front and its rest do
-pub all-split : (p : ℕ → Bool) (n : ℕ) (s : List ℕ) → all p s ≡ all p (take n s) && all p (drop n s)
+-- what passes a test passes a weaker one
+pub all-weaker : (p q : ℕ → Bool) → ((b : ℕ) → p b ≡ true → q b ≡ true) → (s : List ℕ) → all p s ≡ true → all q s ≡ true
 unfolding all
-all-split p zero s = refl
-all-split p (suc n) [] = refl
-all-split p (suc n) (x ∷ s) = rw (all-split p n s) (and-assoc (p x) _ _)
+all-weaker p q f [] e = refl
+all-weaker p q f (x ∷ s) e = and-intro (q x) _ (f x (and-left (p x) _ e)) (all-weaker p q f s (and-right (p x) _ e))
+
+-- a list of n parts of one size passes where each part does
+module _ (p : ℕ → Bool) (size : ℕ) (s : List ℕ) where
+  all-fronts : (n : ℕ) → all p (take (n * size) s) ≡ every n (λ k. all p (part size k s))
+  unfolding all every part
+  all-fronts zero = rw zero-mul refl
+  all-fronts (suc n) = rw (suc-mul n size, take-add (n * size) size s, all-append, all-fronts n) refl
+
+  pub all-parts : (n : ℕ) → length s ≡ n * size → all p s ≡ every n (λ k. all p (part size k s))
+  all-parts n e = ap (all p) (sym (take-all (n * size) s (le-of-eq e))) ∙ all-fronts n
 
 pub digit-low : (b : ℕ) → isDigit b ≡ true → 48 ≤ b
 digit-low b e = leb-true _ _ (and-left _ _ e)

@@ -1,3 +1,4 @@
 pub mod ByteLaws
 pub mod OrderLaws
 pub mod NumberLaws
+pub mod WordLaws

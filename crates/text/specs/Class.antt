@@ -3,9 +3,9 @@
 use Prim.Native.Nat.{ℕ}
 use Prim.Native.Char.{code}
 use mathlib.Core.Bool.{Bool, true, false, _&&_, _||_, not}
-use lib.Dec.{leb, eqb}
+use lib.Dec.{leb, ltb, eqb}
 use Rattle.text.specs.declared.Class.{Class}
-use Rattle.text.specs.declared.Class.the-variants.{Digit, Capital, CapitalOrDigit, WordByte, RecordByte, BodyByte, Space, Zero}
+use Rattle.text.specs.declared.Class.the-variants.{Digit, Capital, CapitalOrDigit, WordByte, RecordByte, AboveApostrophe, BodyByte, Space, Zero}
 
 -- 0 to 9
 abbrev pub isDigit : ℕ → Bool
@@ -28,6 +28,10 @@ isWordByte b =
 abbrev pub isRecordByte : ℕ → Bool
 isRecordByte b = not (eqb b 13) && not (eqb b 10) && not (eqb b (code "'"))
 
+-- above the apostrophe, and so above CR and LF: one comparison tells that it is a byte of a record
+abbrev pub isAboveApostrophe : ℕ → Bool
+isAboveApostrophe b = ltb (code "'") b
+
 -- a byte of an envelope's body: no apostrophe
 abbrev pub isBodyByte : ℕ → Bool
 isBodyByte b = not (eqb b (code "'"))
@@ -44,6 +48,7 @@ belongsTo Capital b = isCapital b
 belongsTo CapitalOrDigit b = isCapitalOrDigit b
 belongsTo WordByte b = isWordByte b
 belongsTo RecordByte b = isRecordByte b
+belongsTo AboveApostrophe b = isAboveApostrophe b
 belongsTo BodyByte b = isBodyByte b
 belongsTo Space b = isSpace b
 belongsTo Zero b = isZero b

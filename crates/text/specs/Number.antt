@@ -1,6 +1,6 @@
--- Little-endian numbers of a fixed count of bytes, at a place of a list.
+-- Numbers as bytes: little-endian ones of a fixed count of bytes, at a place of a list; and the big-endian number of a text.
 -- Assumes nothing.
-use Prim.Native.Nat.{ℕ, zero, suc, _+_, _*_, _/_, _%_}
+use Prim.Native.Nat.{ℕ, zero, suc, _+_, _*_, _/_, _%_, _^_}
 use mathlib.Core.Bool.{cond}
 use mathlib.Core.List.{List, [], _∷_, _++_}
 use lib.Dec.{leb}
@@ -10,6 +10,11 @@ use lib.ListN.{length, take, drop}
 unfoldable pub littleEndian : List ℕ → ℕ
 littleEndian [] = 0
 littleEndian (b ∷ bs) = b + 256 * littleEndian bs
+
+-- the same, the highest first
+unfoldable pub bigEndian : List ℕ → ℕ
+bigEndian [] = 0
+bigEndian (b ∷ bs) = b * 256 ^ length bs + bigEndian bs
 
 -- the n lowest bytes of a number, the lowest first
 unfoldable pub lowBytes : ℕ → ℕ → List ℕ

@@ -1,11 +1,15 @@
 // Bytes and slices of them: classes, comparison, search, parts, little-endian numbers.
 ghost use mathlib.Core.Path.{_≡_};
 ghost use Prim.Native.Nat.{_≤_, _<_, _^_};
+ghost use lib.Dec.{eqb};
 ghost use lib.ListN.{length, take, drop};
 ghost use Rattle.text.specs.Class.{belongsTo, isDigit, isCapital, isWordByte, isRecordByte, isZero};
 ghost use Rattle.text.specs.Bytes.{all as allOf, same, positionOf, countOf};
 ghost use Rattle.text.specs.Order.{orderOf};
-ghost use Rattle.text.specs.Number.{littleEndian, lowBytes, numberAt, numberPut};
+ghost use Rattle.text.specs.Number.{littleEndian, bigEndian, lowBytes, numberAt, numberPut};
+
+// The bytes that are tested for zeros at once: a loop over so many that it is known how many is made of wide steps.
+const ZERO_BLOCK: usize = 512;
 
 // A class of bytes.
 pub enum Class {
@@ -14,6 +18,7 @@ pub enum Class {
     CapitalOrDigit,
     WordByte,
     RecordByte,
+    AboveApostrophe,
     BodyByte,
     Space,
     Zero,
@@ -60,25 +65,34 @@ pub fn belongs(c: Class, b: u8) -> bool
         Class::CapitalOrDigit => is_capital(b) | is_digit(b),
         Class::WordByte => is_word_byte(b),
         Class::RecordByte => is_record_byte(b),
+        Class::AboveApostrophe => b'\'' < b,
         Class::BodyByte => !(b == b'\''),
         Class::Space => b == b' ',
         Class::Zero => b == 0,
     }
 }
 
-// Whether every byte of s is of the class c.
+// 0 for a byte of the class c, and for no other.
+fn mark(c: Class, b: u8) -> u8
+    ensures { λ r. ⌜ eqb r 0 ≡ belongsTo c b ⌝ }
+{
+    if let Class::Zero = c {
+        return b;
+    }
+    if belongs(c, b) { 0 } else { 1 }
+}
+
+// Whether every byte of s is of the class c: their marks put together are none. Without an early end many bytes are tested side by side.
 pub fn all(c: Class, s: &[u8]) -> bool
     ensures { λ r. ⌜ r ≡ allOf (belongsTo c) (now (s .entry)) ⌝ }
 {
+    let mut marks: u8 = 0;
     let mut i = 0;
     while i < s.len() {
-        if belongs(c, s[i]) {
-            i += 1;
-        } else {
-            return false;
-        }
+        marks = marks | mark(c, s[i]);
+        i += 1;
     }
-    true
+    marks == 0
 }
 
 // Whether a and b hold the same bytes.
@@ -182,6 +196,21 @@ fn number_of(w: &[u8]) -> u64
     value
 }
 
+// The number of the first eight bytes of s, of all where it has fewer, the highest first: texts of one length are ordered as these numbers are.
+pub fn big_endian(s: &[u8]) -> u64
+    ensures { λ r. ⌜ r ≡ bigEndian (take 8 (now (s .entry))) ⌝ }
+{
+    let w = front(s, 8);
+    let mut high: u64 = 0;
+    let mut i = 0;
+    while i < w.len() {
+        let b = w[i] as u64;
+        high = high * 256 + b;
+        i += 1;
+    }
+    high
+}
+
 // Writes the lowest bytes of x into w, as many as it has room for.
 fn put_number(w: &mut [u8], x: u64)
     ensures { λ r. ⌜ now (w .exit) ≡ lowBytes (length (now (w .entry))) x ⌝ }
@@ -221,17 +250,19 @@ pub fn read_u64(s: &[u8], at: usize) -> u64
     number_of(&s[at..at + 8])
 }
 
-// Whether the bytes of s are all zero: their bits put together are none.
+// Whether the bytes of s are all zero, block by block.
 pub fn is_zero(s: &[u8]) -> bool
     ensures { λ r. ⌜ r ≡ allOf isZero (now (s .entry)) ⌝ }
 {
-    let mut bits: u8 = 0;
     let mut i = 0;
-    while i < s.len() {
-        bits = bits | s[i];
-        i += 1;
+    while ZERO_BLOCK <= s.len() - i {
+        let next = i + ZERO_BLOCK;
+        if !all(Class::Zero, &s[i..next]) {
+            return false;
+        }
+        i = next;
     }
-    bits == 0
+    all(Class::Zero, &s[i..])
 }
 
 // Writes x into the two bytes of s from a place on, the lowest first; nothing where they are not both there.

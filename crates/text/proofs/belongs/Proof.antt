@@ -44,6 +44,9 @@ enum-told-7 c = search needs
 enum-told-8 : tie.Need-enum-told-8
 enum-told-8 c = search needs
 
+enum-told-9 : tie.Need-enum-told-9
+enum-told-9 c = search needs
+
 returns : tie.Need-returns
 returns c = cc
 
@@ -68,6 +71,9 @@ returns-7 c = cc
 returns-8 : tie.Need-returns-8
 returns-8 c = cc
 
+returns-9 : tie.Need-returns-9
+returns-9 c = cc
+
 pub belongs-spec : {M : Type 1} → statement M
 belongs-spec =
     tie.close
@@ -86,6 +92,7 @@ belongs-spec =
     enum-told-6
     enum-told-7
     enum-told-8
+    enum-told-9
     returns
     returns-2
     returns-3
@@ -93,4 +100,5 @@ belongs-spec =
     returns-5
     returns-6
     returns-7
-    returns-8)
+    returns-8
+    returns-9)
