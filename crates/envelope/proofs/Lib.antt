@@ -2,3 +2,4 @@ pub mod PieceLaws
 pub mod LineLaws
 pub mod OpenedLaws
 pub mod WrittenLaws
+pub mod BlockLaws

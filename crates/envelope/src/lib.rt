@@ -2,6 +2,7 @@
 ghost use mathlib.Core.Path.{_≡_};
 ghost use Prim.Native.Nat.{_+_};
 ghost use lib.ListN.{drop};
+ghost use Rattle.text.specs.declared.Class.the-variants.{RecordByte};
 ghost use Rattle.envelope.specs.Pieces.{runOf, textEnd, partEnd, partThen};
 ghost use Rattle.envelope.specs.Body.{lineEnd, linesAt, bodyAt};
 ghost use Rattle.envelope.specs.Envelope.{Ordered, headOf, tailOf, bodyStage, openedAs, openedOf};
@@ -9,6 +10,9 @@ use text::Class;
 
 // The most records of a file.
 const RECORD_COUNT_LIMIT: usize = 1024;
+
+// The bytes that are tested at once.
+const BLOCK_SIZE: usize = 16;
 
 // Where a piece ends, or that it is not there.
 pub enum Piece {
@@ -117,11 +121,50 @@ fn part_then(s: &[u8], at: usize, k: Class, lo: usize, hi: usize, t: &[u8]) -> P
     text_end(s, e, t)
 }
 
+// The end of the run of record bytes in w: its length where every byte is above the apostrophe, as in most blocks of a record.
+fn block_end(w: &[u8]) -> usize
+    ensures { λ r. ⌜ r ≡ runOf RecordByte (now (w .entry)) ⌝ }
+{
+    if text::all(Class::AboveApostrophe, w) {
+        return w.len();
+    }
+    run_end(w, 0, Class::RecordByte)
+}
+
+// The end of the record at a place, block by block.
+fn blocks_end(s: &[u8], at: usize) -> usize
+    ensures { λ r. ⌜ r ≡ at + runOf RecordByte (drop at (now (s .entry))) ⌝ }
+{
+    if s.len() < at {
+        return at;
+    }
+    let mut p = at;
+    while BLOCK_SIZE <= s.len() - p {
+        let next = p + BLOCK_SIZE;
+        let n = block_end(&s[p..next]);
+        if n < BLOCK_SIZE {
+            return p + n;
+        }
+        p = next;
+    }
+    run_end(s, p, Class::RecordByte)
+}
+
+// The end of the record at a place; one that is empty, or begins low, is not worth a block.
+fn record_end(s: &[u8], at: usize) -> usize
+    ensures { λ r. ⌜ r ≡ at + runOf RecordByte (drop at (now (s .entry))) ⌝ }
+{
+    if at < s.len() && text::belongs(Class::AboveApostrophe, s[at]) {
+        return blocks_end(s, at);
+    }
+    run_end(s, at, Class::RecordByte)
+}
+
 // The end of the line at a place: a record, then CR LF.
 pub fn line_end(s: &[u8], at: usize) -> Piece
     ensures { λ r. ⌜ r ≡ lineEnd (now (s .entry)) at ⌝ }
 {
-    let e = run_end(s, at, Class::RecordByte);
+    let e = record_end(s, at);
     text_end(s, e, b"\r\n")
 }
 
