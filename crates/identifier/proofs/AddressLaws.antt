@@ -12,7 +12,7 @@ use lib.Seq.{take-at, drop-at}
 use Rattle.frame.proofs.BoolLaws.{and-true}
 use Rattle.text.specs.Bytes.{same}
 use Rattle.text.specs.Text.{bytes}
-use Rattle.text.proofs.ByteLaws.{same-refl, same-sym, same-split, same-lengths}
+use Rattle.text.proofs.ByteLaws.{same-refl, same-sym, same-split, same-apart}
 use Rattle.identifier.specs.Identifier.{completed, sameAddress}
 
 -- lists of one length with the same list added to both
@@ -29,7 +29,7 @@ module _ (s t : List ℕ) (l : length s ≡ 8) where
   completion-parts m p q = let h : length s ≤ length t = omega arith in rw (p, q, ← l, same-split s (bytes "XXX") t) refl
 
   pub completion-length : (length t ≡ 11 → ⊥) → false ≡ same (s ++ bytes "XXX") t
-  completion-length n = same-lengths _ _ (λ e. n (sym e ∙ length-append s (bytes "XXX") ∙ rw l refl))
+  completion-length n = same-apart length _ _ (λ e. n (sym e ∙ length-append s (bytes "XXX") ∙ rw l refl))
 
 completed-short : (s : List ℕ) → length s ≡ 8 → completed s ≡ s ++ bytes "XXX"
 unfolding completed
@@ -62,4 +62,4 @@ module _ (s t : List ℕ) where
 
   pub address-none-short : (length s ≡ length t → ⊥) → (length s ≡ 8 → ⊥) → (length t ≡ 8 → ⊥) → false ≡ sameAddress s t
   unfolding sameAddress
-  address-none-short n m k = rw (completed-other s m, completed-other t k) (same-lengths s t n)
+  address-none-short n m k = rw (completed-other s m, completed-other t k) (same-apart length s t n)

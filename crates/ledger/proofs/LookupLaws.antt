@@ -1,28 +1,18 @@
--- Laws of the look-ups: what a search through the rows of a compartment finds, what a count of them comes to, and when two numbers differ.
+-- Laws of the look-ups: what a search through the rows of a compartment finds, and what a count of them comes to.
 -- Assumes nothing.
 use Prim.Native.Nat.{ℕ, _+_, _≤_, _<_}
 use native.Mathlib.Numerals.{add-one}
 use native.Mathlib.Omega.{arith}
 use mathlib.Core.Bool.{Bool, true, false}
 use mathlib.Core.List.{List}
-use mathlib.Core.Path.{_≡_, refl, ap, sym, _∙_}
+use mathlib.Core.Path.{_≡_, sym, _∙_}
 use borrow.Author.Tests.{eq-eqb, ne-eqb}
 use lib.ListN.{length}
 use Rattle.frame.specs.Every.{howMany}
 use Rattle.frame.proofs.LeastLaws.{least-is, least-none}
-use Rattle.text.specs.Bytes.{same}
-use Rattle.text.proofs.ByteLaws.{same-true}
 use Rattle.ledger.specs.Row.{filled}
 use Rattle.ledger.specs.Sound.{rowsOf, rowCount, compartmentSize}
 use Rattle.ledger.specs.Lookup.{firstRow, filledRows}
-
--- lists that differ in length, in the last byte, or in whatever is read of them, are not the same
-pub same-apart : (f : List ℕ → ℕ) (s t : List ℕ) → (f s ≡ f t → ⊥) → false ≡ same s t
-same-apart f s t n = go (same s t) refl
-  where
-    go : (b : Bool) → same s t ≡ b → false ≡ b
-    go true e = absurd (n (ap f (same-true s t e)))
-    go false e = refl
 
 -- what a search through the rows knows at its ends
 module _ (c : List ℕ) (p : ℕ → Bool) where

@@ -1,3 +1,4 @@
 pub mod TableLaws
 pub mod ReporterLaws
 pub mod CurrencyLaws
+pub mod CodeLaws

@@ -2,18 +2,19 @@
 -- Assumes nothing.
 use Prim.Native.Nat.{ℕ, _*_, _≤_, _<_}
 use native.Mathlib.Omega.{arith}
-use mathlib.Core.Bool.{Bool, true, false, not, false≢true}
+use mathlib.Core.Bool.{Bool, true, false, _&&_, _||_, not, false≢true}
 use mathlib.Core.List.{List}
 use mathlib.Core.Path.{_≡_, refl, sym, _∙_}
-use borrow.Author.Tests.{ltb-true, not-true}
-use lib.Dec.{ltb}
+use borrow.Author.Tests.{ltb-true, eqb-false, not-true}
+use lib.Dec.{ltb, eqb}
 use lib.ListN.{length, length-take, length-drop}
 use Rattle.frame.proofs.BoolLaws.{and-left, and-right}
 use Rattle.frame.proofs.EveryLaws.{every-at}
 use Rattle.frame.proofs.LeastLaws.{least-hit, least-is}
 use Rattle.frame.proofs.PartLaws.{part-length}
 use Rattle.text.specs.Bytes.{same}
-use Rattle.text.proofs.ByteLaws.{same-true, same-refl}
+use Rattle.text.specs.Number.{numberAt}
+use Rattle.text.proofs.ByteLaws.{same-true, same-refl, same-apart}
 use Rattle.identifier.specs.Identifier.{completed, sameAddress}
 use Rattle.identifier.proofs.AddressLaws.{address-equal-lengths}
 use Rattle.tables.specs.Reporters.{reporterSize, reporterLimit, reporterCount, reporterAt, codeOf, addressOf, reporterForm, reportersDiffer}
@@ -91,3 +92,16 @@ address-unique t f k ok e =
         let lengths = address-length t k h ∙ sym (address-length t j (omega arith)) in
         absurd (false≢true (sym (addresses-differ t ok k j h l) ∙ addresses-both _ _ f lengths here there))
     other j l h false q = refl
+
+-- rows without a word in common differ
+pub words-apart : (v w : List ℕ)
+    → (eqb (numberAt 2 3 (codeOf v)) (numberAt 2 3 (codeOf w)) || eqb (numberAt 8 0 (addressOf v)) (numberAt 8 0 (addressOf w))) ≡ false
+    → true ≡ not (same (codeOf v) (codeOf w)) && not (same (addressOf v) (addressOf w))
+words-apart v w = go _ _ refl refl
+  where
+    go : (a b : Bool) → eqb (numberAt 2 3 (codeOf v)) (numberAt 2 3 (codeOf w)) ≡ a → eqb (numberAt 8 0 (addressOf v)) (numberAt 8 0 (addressOf w)) ≡ b
+        → (a || b) ≡ false → true ≡ not (same (codeOf v) (codeOf w)) && not (same (addressOf v) (addressOf w))
+    go true b p q e = absurd (false≢true (sym e))
+    go false true p q e = absurd (false≢true (sym e))
+    go false false p q e =
+        rw (← same-apart (numberAt 2 3) (codeOf v) (codeOf w) (eqb-false _ _ p), ← same-apart (numberAt 8 0) (addressOf v) (addressOf w) (eqb-false _ _ q)) refl

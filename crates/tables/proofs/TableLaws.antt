@@ -24,7 +24,7 @@ module _ (most size : ℕ) (p : ℕ → Bool) (t : List ℕ) where
   pub table-ragged : (length t % size ≡ 0 → ⊥) → false ≡ tableOk most size p t
   table-ragged n = rw (ne-eqb _ _ n, and-false) refl
 
-  table-whole : length t ≤ most → length t % size ≡ 0 → every (length t / size) p ≡ tableOk most size p t
+  pub table-whole : length t ≤ most → length t % size ≡ 0 → every (length t / size) p ≡ tableOk most size p t
   table-whole h e = rw (le-leb _ _ h, eq-eqb _ _ e) refl
 
   pub table-broke : (k : ℕ) {r : Bool} → length t ≤ most → length t % size ≡ 0 → k < length t / size → r ≡ p k → not r ≡ true

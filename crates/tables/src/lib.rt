@@ -1,13 +1,16 @@
 // The lent tables: who reports, and which currencies are money.
-ghost use Prim.Native.Nat.{_-_, _<_};
-ghost use mathlib.Core.Bool.{_||_};
+ghost use Prim.Native.Nat.{_*_, _<_};
+ghost use mathlib.Core.Bool.{true, _||_};
 ghost use mathlib.Core.Path.{_≡_};
 ghost use lib.Dec.{eqb};
+ghost use lib.ListN.{length};
 ghost use Rattle.frame.specs.Every.{every};
-ghost use Rattle.text.specs.Order.{below};
+ghost use Rattle.text.specs.Class.{isCapital};
+ghost use Rattle.text.specs.Bytes.{all, same};
+ghost use Rattle.text.specs.Number.{numberAt};
 ghost use Rattle.tables.specs.Reporters.{reporterCount, reporterAt, codeOf, addressOf, mailboxBytes, mailboxOf, mailboxForm, reporterForm};
 ghost use Rattle.tables.specs.Reporters.{reportersDiffer, reporterOk, reportersOk, hasCode, hasAddress, hasMailbox, rowByCode, rowByAddress};
-ghost use Rattle.tables.specs.Currencies.{currencyCount, currencyAt, isSpecial, currencyOk, currenciesOk, foundMoney};
+ghost use Rattle.tables.specs.Currencies.{currencySize, currencyCount, currencyAt, isSpecial, currencyOk, currenciesOk, foundMoney};
 use text::Class;
 use text::Order;
 
@@ -33,7 +36,9 @@ fn row(t: &[u8], k: usize) -> &[u8]
     requires { ⌜ k < reporterCount (now t) ⌝ }
     ensures { λ r. ⌜ now r ≡ reporterAt (now (t .entry)) k ⌝ }
 {
-    text::front(text::rest(t, k * REPORTER_SIZE), REPORTER_SIZE)
+    let a = k * REPORTER_SIZE;
+    let e = a + REPORTER_SIZE;
+    &t[a..e]
 }
 
 // The bank code of a row.
@@ -83,6 +88,15 @@ fn is_reporter(w: &[u8]) -> bool
         & text::is_zero(text::rest(w, 24))
 }
 
+// Whether two rows have the same word in their bank codes or in their addresses: the last two digits, the first eight bytes. Most rows have not.
+fn may_agree<'a>(v: &'a [u8], w: &'a [u8]) -> bool
+    ensures { λ r. ⌜ r ≡ (eqb (numberAt 2 3 (codeOf (now (v .entry)))) (numberAt 2 3 (codeOf (now (w .entry))))
+        || eqb (numberAt 8 0 (addressOf (now (v .entry)))) (numberAt 8 0 (addressOf (now (w .entry))))) ⌝ }
+{
+    (text::read_u16(code_of(v), 3) == text::read_u16(code_of(w), 3))
+        | (text::read_u64(address_of(v), 0) == text::read_u64(address_of(w), 0))
+}
+
 // Whether two rows differ in bank code and in address.
 fn rows_differ(t: &[u8], k: usize, j: usize) -> bool
     requires { ⌜ (k < reporterCount (now t)) × (j < reporterCount (now t)) ⌝ }
@@ -90,6 +104,9 @@ fn rows_differ(t: &[u8], k: usize, j: usize) -> bool
 {
     let v = row(t, k);
     let w = row(t, j);
+    if !may_agree(v, w) {
+        return true;
+    }
     !text::equal(code_of(v), code_of(w)) & !text::equal(address_of(v), address_of(w))
 }
 
@@ -137,11 +154,18 @@ pub fn reporters_ok(t: &[u8]) -> bool
     true
 }
 
+// Whether a bank code is f; the last two digits are compared first, since codes begin alike.
+fn is_code<'a>(code: &'a [u8], f: &'a [u8]) -> bool
+    ensures { λ r. ⌜ r ≡ same (now (code .entry)) (now (f .entry)) ⌝ }
+{
+    text::read_u16(code, 3) == text::read_u16(f, 3) && text::equal(code, f)
+}
+
 // Whether row k has the bank code f.
 pub fn has_code<'a>(t: &'a [u8], f: &'a [u8], k: usize) -> bool
     ensures { λ r. ⌜ r ≡ hasCode (now (t .entry)) (now (f .entry)) k ⌝ }
 {
-    k < reporter_count(t) && text::equal(code_of(row(t, k)), f)
+    k < reporter_count(t) && is_code(code_of(row(t, k)), f)
 }
 
 // Whether row k has the address f, which may lack the XXX at its end.
@@ -200,48 +224,49 @@ fn currency(t: &[u8], k: usize) -> &[u8]
     requires { ⌜ k < currencyCount (now t) ⌝ }
     ensures { λ r. ⌜ now r ≡ currencyAt (now (t .entry)) k ⌝ }
 {
-    text::front(text::rest(t, k * CURRENCY_SIZE), CURRENCY_SIZE)
+    let a = k * CURRENCY_SIZE;
+    let e = a + CURRENCY_SIZE;
+    &t[a..e]
 }
 
-// Whether s is a special code, which is no currency.
+// Whether s is a special code, which is no currency: XX, then X, K, O or Z.
 pub fn is_special(s: &[u8]) -> bool
     ensures { λ r. ⌜ r ≡ isSpecial (now (s .entry)) ⌝ }
 {
-    text::equal(s, b"XXX")
-        | text::equal(s, b"XXK")
-        | text::equal(s, b"XXO")
-        | text::equal(s, b"XXZ")
-}
-
-// Whether s comes before c in the order of their bytes.
-fn is_below<'a>(s: &'a [u8], c: &'a [u8]) -> bool
-    ensures { λ r. ⌜ r ≡ below (now (s .entry)) (now (c .entry)) ⌝ }
-{
-    match text::compare(s, c) {
-        Order::Less => true,
-        Order::Same => false,
-        Order::Greater => false,
+    if s.len() != CURRENCY_SIZE {
+        return false;
     }
-}
-
-// Whether code k comes after the code before it, if there is one.
-fn is_after(t: &[u8], k: usize) -> bool
-    requires { ⌜ k < currencyCount (now t) ⌝ }
-    ensures { λ r. ⌜ r ≡ eqb k 0 || below (currencyAt (now (t .entry)) (k - 1)) (currencyAt (now (t .entry)) k) ⌝ }
-{
-    if k == 0 {
-        return true;
+    if s[0] != b'X' {
+        return false;
     }
-    is_below(currency(t, k - 1), currency(t, k))
+    if s[1] != b'X' {
+        return false;
+    }
+    let last = s[2];
+    (last == b'X') | (last == b'K') | (last == b'O') | (last == b'Z')
 }
 
-// Whether code k is in order.
-fn currency_ok(t: &[u8], k: usize) -> bool
-    requires { ⌜ k < currencyCount (now t) ⌝ }
-    ensures { λ r. ⌜ r ≡ currencyOk (now (t .entry)) k ⌝ }
+// Whether the codes of a list of capitals are in order: none is special, and as numbers they ascend.
+fn ascends(t: &[u8]) -> bool
+    requires { ⌜ (length (now t) ≡ currencyCount (now t) * currencySize) × (all isCapital (now t) ≡ true) ⌝ }
+    ensures { λ r. ⌜ r ≡ every (currencyCount (now (t .entry))) (currencyOk (now (t .entry))) ⌝ }
 {
-    let s = currency(t, k);
-    text::all(Class::Capital, s) & !is_special(s) & is_after(t, k)
+    let count = currency_count(t);
+    let mut before: u64 = 0;
+    let mut k = 0;
+    while k < count {
+        let w = currency(t, k);
+        let x = text::big_endian(w);
+        if x <= before {
+            return false;
+        }
+        if is_special(w) {
+            return false;
+        }
+        before = x;
+        k += 1;
+    }
+    true
 }
 
 // Whether the currency list is in order; else the call is refused by 3.
@@ -254,15 +279,7 @@ pub fn currencies_ok(t: &[u8]) -> bool
     if t.len() % CURRENCY_SIZE != 0 {
         return false;
     }
-    let count = currency_count(t);
-    let mut k = 0;
-    while k < count {
-        if !currency_ok(t, k) {
-            return false;
-        }
-        k += 1;
-    }
-    true
+    text::all(Class::Capital, t) && ascends(t)
 }
 
 // Whether s is money: a search of the ascending list, which halves what is left at each turn.

@@ -75,13 +75,6 @@ module _ (s t : List ℕ) (i : ℕ) (l : length s ≡ length t) (e : same s t �
   unfolding same
   same-end h = let k : length t ≤ i = rw l at h in sym (e ∙ rw (drop-of-length-le s h, drop-of-length-le t k) refl)
 
-pub same-lengths : (s t : List ℕ) → (length s ≡ length t → ⊥) → false ≡ same s t
-unfolding same
-same-lengths [] [] n = absurd (n refl)
-same-lengths [] (y ∷ ys) n = refl
-same-lengths (x ∷ xs) [] n = refl
-same-lengths (x ∷ xs) (y ∷ ys) n = rw (← same-lengths xs ys (λ e. n (ap suc e)), and-false) refl
-
 module _ (b : ℕ) (s : List ℕ) (i : ℕ) (e : positionOf b s ≡ i + positionOf b (drop i s)) where
   pub position-go : i < length s → (getD s i 0 ≡ b → ⊥) → positionOf b s ≡ (i + 1) + positionOf b (drop (i + 1) s)
   unfolding positionOf
@@ -170,6 +163,14 @@ same-true [] [] e = refl
 same-true [] (y ∷ t) e = absurd (false≢true e)
 same-true (x ∷ s) [] e = absurd (false≢true e)
 same-true (x ∷ s) (y ∷ t) e = rw (eqb-true x y (and-left (eqb x y) _ e), same-true s t (and-right (eqb x y) _ e))
+
+-- lists that differ in whatever is read of them, as their length or a word, are not the same
+pub same-apart : (f : List ℕ → ℕ) (s t : List ℕ) → (f s ≡ f t → ⊥) → false ≡ same s t
+same-apart f s t n = go (same s t) refl
+  where
+    go : (b : Bool) → same s t ≡ b → false ≡ b
+    go true e = absurd (n (ap f (same-true s t e)))
+    go false e = refl
 
 -- the comparison may be turned round
 eqb-sym : (x y : ℕ) → eqb x y ≡ eqb y x

@@ -4,7 +4,7 @@ use Prim.Native.Nat.{ℕ, _-_}
 use mathlib.Core.List.{List}
 use lib.ListN.{length, getD}
 use Rattle.text.specs.Bytes.{same}
-use Rattle.ledger.proofs.LookupLaws.{same-apart}
+use Rattle.text.proofs.ByteLaws.{same-apart}
 use Rattle.ledger.proofs.is_number.Statement.{statement}
 use Rattle.ledger.proofs.is_number.Tie as tie
 

@@ -17,7 +17,7 @@ returns c =
     rw (
       ← inside .before .reporter-count .ensures,
       lt-ltb _ _ (inside .if1 .taken),
-      c .equal .ensures,
+      c .is-code .ensures,
       c .before .code-of .ensures,
       c .before .before .row .ensures,
     ) refl

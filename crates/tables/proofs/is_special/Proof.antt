@@ -1,39 +1,43 @@
--- `is_special` compares with each special code.
+-- `is_special` reads the code letter by letter.
 -- Assumes nothing.
-use mathlib.Core.Bool.{_||_}
-use Rattle.tables.specs.Currencies.{isSpecial}
+use borrow.Author.Needs.{needs}
+use mathlib.Core.Path.{refl, sym, _∙_}
+use borrow.Author.Tests.{eq-eqb, ne-eqb}
+use Rattle.frame.proofs.BoolLaws.{and-false}
+use Rattle.tables.proofs.CodeLaws.{special-none, special-letters}
 use borrow.Author.Needs.{needs}
 use Rattle.tables.proofs.is_special.Statement.{statement}
 use Rattle.tables.proofs.is_special.Tie as tie
 
-slice-aggregate-equal : tie.Need-slice-aggregate-equal
-slice-aggregate-equal c = search needs
-
-slice-aggregate-equal-2 : tie.Need-slice-aggregate-equal-2
-slice-aggregate-equal-2 c = search needs
-
-slice-aggregate-equal-3 : tie.Need-slice-aggregate-equal-3
-slice-aggregate-equal-3 c = search needs
-
-slice-aggregate-equal-4 : tie.Need-slice-aggregate-equal-4
-slice-aggregate-equal-4 c = search needs
-
 returns : tie.Need-returns
-unfolding isSpecial
-returns c =
-    let second = c .before .before .before .before in
-    λ i. second .before .before .equal .ensures i || second .equal2 .ensures i || c .before .before .equal3 .ensures i || c .equal4 .ensures i
+returns c = special-none _ (c .if1 .taken)
+
+shared-slice-read-if2 : tie.Need-shared-slice-read-if2
+shared-slice-read-if2 c = search needs
+
+returns-2 : tie.Need-returns-2
+returns-2 c = sym (special-letters _ (c .before .before .if1 .left) ∙ rw (ne-eqb _ _ (c .if2 .taken)) refl)
+
+shared-slice-read-if3 : tie.Need-shared-slice-read-if3
+shared-slice-read-if3 c = search needs
+
+returns-3 : tie.Need-returns-3
+returns-3 c = sym (special-letters _ (c .before .before .before .before .if1 .left) ∙ rw (ne-eqb _ _ (c .if3 .taken), and-false) refl)
+
+shared-slice-read-last : tie.Need-shared-slice-read-last
+shared-slice-read-last c = search needs
+
+returns-4 : tie.Need-returns-4
+returns-4 c = sym (special-letters _ (c .before .before .before .before .before .if1 .left) ∙ rw (eq-eqb _ _ (c .before .before .before .if2 .left), eq-eqb _ _ (c .before .if3 .left)) refl)
 
 pub is-special-spec : {M : Type 1} → statement M
 is-special-spec =
     tie.close
     (tie.spec
-    slice-aggregate-equal
-    (λ c κs. tt)
-    slice-aggregate-equal-2
-    (λ c κs. tt)
-    slice-aggregate-equal-3
-    (λ c κs. tt)
-    slice-aggregate-equal-4
-    (λ c κs. tt)
-    returns)
+    returns
+    shared-slice-read-if2
+    returns-2
+    shared-slice-read-if3
+    returns-3
+    shared-slice-read-last
+    returns-4)

@@ -1,7 +1,9 @@
--- Both comparisons are of what was lent of the two rows.
+-- Rows without a word in common differ; else what was lent of the two rows is compared.
 -- Assumes nothing.
-use mathlib.Core.Path.{refl}
+use mathlib.Core.Path.{refl, sym, _∙_}
+use borrow.Author.Tests.{not-true}
 use Rattle.tables.specs.Reporters.{reportersDiffer}
+use Rattle.tables.proofs.ReporterLaws.{words-apart}
 use Rattle.tables.proofs.rows_differ.Statement.{statement}
 use Rattle.tables.proofs.rows_differ.Tie as tie
 
@@ -14,8 +16,15 @@ row-requires-2 c κs = c .before .before .pre .1
 returns : tie.Need-returns
 unfolding reportersDiffer
 returns c =
+    let lent = c .before .before in
+    rw (← lent .before .row .ensures, ← lent .row2 .ensures)
+    (words-apart (lent .before .row .result .now) (lent .row2 .result .now) (sym (c .before .may-agree .ensures) ∙ not-true _ (c .if1 .taken)))
+
+returns-2 : tie.Need-returns-2
+unfolding reportersDiffer
+returns-2 c =
     let coded = c .before .before .before in
-    let lent = coded .before .before .before in
+    let lent = coded .before .before .before .before .before in
     rw (
       coded .equal .ensures,
       coded .before .code-of2 .ensures,
@@ -34,9 +43,11 @@ rows-differ-spec =
     row-requires
     row-requires-2
     (λ c κs. tt)
+    returns
     (λ c κs. tt)
     (λ c κs. tt)
     (λ c κs. tt)
     (λ c κs. tt)
     (λ c κs. tt)
-    returns)
+    (λ c κs. tt)
+    returns-2)

@@ -3,7 +3,7 @@ use Prim.Native.Nat.{_≤_, _-_}
 use mathlib.Core.Path.{_≡_}
 use lib.ListN.{length, drop}
 use Rattle.text.specs.Bytes.{same}
-use Rattle.text.proofs.ByteLaws.{same-go, same-stop, same-end, same-lengths}
+use Rattle.text.proofs.ByteLaws.{same-go, same-stop, same-end, same-apart}
 use Rattle.text.proofs.equal.Statement.{statement}
 use Rattle.text.proofs.equal.Tie as tie
 
@@ -14,7 +14,7 @@ abbrev μ-loop : tie.MeasureT-loop
 μ-loop a b i₀ i = length a - i
 
 returns : tie.Need-returns Inv-loop μ-loop
-returns c = same-lengths _ _ (c .if1 .taken)
+returns c = same-apart length _ _ (c .if1 .taken)
 
 loop-holds : tie.Need-loop-holds Inv-loop μ-loop
 loop-holds c = search needs
