@@ -3,3 +3,4 @@ pub mod CheckLaws
 pub mod LookupLaws
 pub mod RowLaws
 pub mod SoundLaws
+pub mod SlotLaws

@@ -1,3 +1,4 @@
 pub mod Row
 pub mod Sound
 pub mod Lookup
+pub mod Slots

@@ -10,6 +10,7 @@ ghost use Rattle.text.specs.Number.{numberAt};
 ghost use Rattle.ledger.specs.Row.{rowSize, live, state, filled, number, numberPadding, partner, isSide, rowForm};
 ghost use Rattle.ledger.specs.Sound.{rowCount, compartmentSize, rowsOf, pointsBack, linked, precedes, soundRow, soundCompartment};
 ghost use Rattle.ledger.specs.Sound.{soundLedger};
+ghost use Rattle.ledger.specs.Slots.{slotCount, slotOf, Fresh};
 ghost use Rattle.ledger.specs.Lookup.{freeRow, rowByNumber, liveRow, filledRows};
 use text::Class;
 
@@ -53,6 +54,9 @@ pub const NUMBER_ROOM: usize = 16;
 const LARGEST_QUANTITY: u64 = 9_999_999_999_999_999_999;
 
 const NO_PARTNER: usize = 65535;
+
+// Neighbouring numbers fall into different ones of so many slots.
+const SLOT_COUNT: usize = 499;
 
 // A byte as a size.
 fn wide(b: u8) -> usize
@@ -171,14 +175,38 @@ fn is_new_number(c: &[u8], k: usize) -> bool
     true
 }
 
-// Whether row k, which is filled, is sound after the sound and filled rows before it.
-fn is_sound_filled(c: &[u8], k: usize) -> bool
+// The slot of a row: rows with one number have one slot.
+fn slot_of(w: &[u8]) -> usize
+    ensures { λ r. ⌜ (r ≡ slotOf (now (w .entry))) × (r < slotCount) ⌝ }
+{
+    let first = text::read_u64(w, NUMBER_PLACE);
+    let second = text::read_u64(w, SECOND_WORD_PLACE);
+    (first ^ second) as usize % SLOT_COUNT
+}
+
+// Whether the rows before row k, which are sound, have other numbers: at once where its slot is fresh, else pair by pair.
+fn is_other_number(c: &[u8], k: usize, fresh: bool) -> bool
+    requires { ⌜ (length (now c) ≡ compartmentSize) × (k < rowCount) ⌝ }
+    requires { ⌜ (every k (soundRow (rowsOf (now c))) ≡ true) × (every k (λ j. filled (rowsOf (now c) j)) ≡ true) ⌝ }
+    requires { ⌜ rowForm (rowsOf (now c) k) ≡ true ⌝ }
+    requires { ⌜ (fresh ≡ true → Fresh (rowsOf (now c)) k) ⌝ }
+    ensures { λ r. ⌜ r ≡ every k (precedes (rowsOf (now (c .entry))) (number (rowsOf (now (c .entry)) k))) ⌝ }
+{
+    if fresh {
+        return true;
+    }
+    is_new_number(c, k)
+}
+
+// Whether row k, which is filled, is sound after the sound and filled rows before it; fresh where its slot is.
+fn is_sound_filled(c: &[u8], k: usize, fresh: bool) -> bool
     requires { ⌜ (length (now c) ≡ compartmentSize) × (k < rowCount) ⌝ }
     requires { ⌜ (every k (soundRow (rowsOf (now c))) ≡ true) × (every k (λ j. filled (rowsOf (now c) j)) ≡ true) ⌝ }
     requires { ⌜ filled (rowsOf (now c) k) ≡ true ⌝ }
+    requires { ⌜ (fresh ≡ true → Fresh (rowsOf (now c)) k) ⌝ }
     ensures { λ r. ⌜ r ≡ soundRow (rowsOf (now (c .entry))) k ⌝ }
 {
-    is_row_form(row(c, k)) && (is_new_number(c, k) && is_linked(c, k))
+    is_row_form(row(c, k)) && (is_other_number(c, k, fresh) && is_linked(c, k))
 }
 
 // Whether a compartment is sound. From the first free row on it is all zero.
@@ -188,13 +216,16 @@ pub fn sound_compartment(c: &[u8]) -> bool
     if c.len() != COMPARTMENT_SIZE {
         return false;
     }
+    let mut seen = [0u8; SLOT_COUNT];
     let mut k = 0;
     while k < ROW_COUNT {
         let w = row(c, k);
         if w[STATE_PLACE] == FREE {
             return text::is_zero(text::rest(c, k * ROW_SIZE));
         }
-        if is_sound_filled(c, k) {
+        let slot = slot_of(w);
+        if is_sound_filled(c, k, seen[slot] == 0) {
+            seen[slot] = 1;
             k += 1;
         } else {
             return false;

@@ -11,11 +11,11 @@ row-requires c κs = search needs
 is-row-form-requires : tie.Need-is-row-form-requires
 is-row-form-requires c κs = search needs
 
-is-new-number-requires : tie.Need-is-new-number-requires
-is-new-number-requires c κs =
+is-other-number-requires : tie.Need-is-other-number-requires
+is-other-number-requires c κs =
     let read = c .before in
     let start = read .before .before .before in
-    (start .pre .0, (start .pre .1 .0, ap rowForm (sym (read .before .row .ensures .0)) ∙ sym (read .is-row-form .ensures) ∙ c .if1 .taken))
+    (start .pre .0, (start .pre .1 .0, (ap rowForm (sym (read .before .row .ensures .0)) ∙ sym (read .is-row-form .ensures) ∙ c .if1 .taken, start .pre .1 .1 .1)))
 
 is-linked-requires : tie.Need-is-linked-requires
 is-linked-requires c κs = search needs
@@ -25,22 +25,22 @@ returns c =
     let checked = c .before .before in
     let read = checked .before .before in
     let start = read .before .before .before in
-    link-decides _ _ (start .pre .1 .1) (read .before .row .ensures .0) (read .is-row-form .ensures) (checked .before .if1 .taken)
-    (checked .is-new-number .ensures) (c .before .if2 .taken) (c .is-linked .ensures)
+    link-decides _ _ (start .pre .1 .1 .0) (read .before .row .ensures .0) (read .is-row-form .ensures) (checked .before .if1 .taken)
+    (checked .is-other-number .ensures) (c .before .if2 .taken) (c .is-linked .ensures)
 
 returns-2 : tie.Need-returns-2
 returns-2 c =
     let checked = c .before in
     let read = checked .before .before in
     let start = read .before .before .before in
-    number-decides _ _ (start .pre .1 .1) (read .before .row .ensures .0) (read .is-row-form .ensures) (checked .before .if1 .taken)
-    (checked .is-new-number .ensures) (c .if2 .left)
+    number-decides _ _ (start .pre .1 .1 .0) (read .before .row .ensures .0) (read .is-row-form .ensures) (checked .before .if1 .taken)
+    (checked .is-other-number .ensures) (c .if2 .left)
 
 returns-3 : tie.Need-returns-3
 returns-3 c =
     let read = c .before in
     let start = read .before .before .before in
-    form-decides _ _ (start .pre .1 .1) (read .before .row .ensures .0) (read .is-row-form .ensures) (c .if1 .left)
+    form-decides _ _ (start .pre .1 .1 .0) (read .before .row .ensures .0) (read .is-row-form .ensures) (c .if1 .left)
 
 pub is-sound-filled-spec : {M : Type 1} → statement M
 is-sound-filled-spec =
@@ -48,7 +48,7 @@ is-sound-filled-spec =
     (tie.spec
     row-requires
     is-row-form-requires
-    is-new-number-requires
+    is-other-number-requires
     is-linked-requires
     returns
     returns-2
