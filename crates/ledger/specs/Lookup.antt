@@ -1,8 +1,9 @@
 -- What is looked up in a compartment: the lowest free row, rows by their number, the count of filled rows. A compartment of another length has no row.
 -- Assumes nothing.
-use Prim.Native.Nat.{ℕ}
-use mathlib.Core.Bool.{Bool, _&&_, cond}
+use Prim.Native.Nat.{ℕ, _≤_, _<_}
+use mathlib.Core.Bool.{Bool, true, false, _&&_, cond}
 use mathlib.Core.List.{List}
+use mathlib.Core.Path.{_≡_}
 use lib.Dec.{eqb}
 use lib.ListN.{length}
 use Rattle.frame.specs.Every.{least, howMany}
@@ -13,6 +14,17 @@ use Rattle.ledger.specs.Sound.{Rows, rowsOf, rowCount, compartmentSize}
 -- the first row that passes, 64 where none does
 abbrev pub firstRow : List ℕ → (ℕ → Bool) → ℕ
 firstRow c p = cond (eqb (length c) compartmentSize) (least rowCount p) rowCount
+
+-- no row from a row up to another passes
+abbrev pub NoneIn : (ℕ → Bool) → ℕ → ℕ → Type 0
+NoneIn p from to = (j : ℕ) → from ≤ j → j < to → p j ≡ false
+
+-- r is the first row from a row on that passes, 64 where none does
+pub record FirstFrom (p : ℕ → Bool) (from r : ℕ) : Type 0 where
+  pub behind : from ≤ r
+  pub within : r ≤ rowCount
+  pub none : NoneIn p from r
+  pub hit : r < rowCount → p r ≡ true
 
 abbrev pub isFree : Rows → ℕ → Bool
 isFree ρ k = eqb (state (ρ k)) free

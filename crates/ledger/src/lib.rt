@@ -1,5 +1,5 @@
 // The ledger: whether it is sound, and what is looked up in a compartment.
-ghost use Prim.Native.Nat.{_-_, _<_};
+ghost use Prim.Native.Nat.{_<_, _≤_};
 ghost use mathlib.Core.Bool.{true, _&&_};
 ghost use mathlib.Core.Path.{_≡_};
 ghost use lib.Dec.{eqb};
@@ -11,7 +11,7 @@ ghost use Rattle.ledger.specs.Row.{rowSize, live, state, filled, number,
 ghost use Rattle.ledger.specs.Sound.{rowCount, compartmentSize, rowsOf, pointsBack, linked, precedes, soundRow, soundCompartment};
 ghost use Rattle.ledger.specs.Sound.{soundLedger};
 ghost use Rattle.ledger.specs.Slots.{slotCount, slotOf, Fresh};
-ghost use Rattle.ledger.specs.Lookup.{freeRow, rowByNumber, liveRow, filledRows};
+ghost use Rattle.ledger.specs.Lookup.{NoneIn, FirstFrom, freeRow, rowByNumber, liveRow, filledRows};
 use text::Class;
 
 pub const ROW_SIZE: usize = 32;
@@ -254,6 +254,22 @@ pub fn sound_ledger(l: &[u8]) -> bool
     true
 }
 
+// The first row from a row on with a byte at a place, 64 where there is none.
+fn next_with(c: &[u8], from: usize, place: usize, b: u8) -> usize
+    requires { ⌜ (length (now c) ≡ compartmentSize) × (from ≤ rowCount) × (place < rowSize) ⌝ }
+    ensures { λ r. ⌜ FirstFrom (λ j. eqb (getD (rowsOf (now (c .entry)) j) place 0) b) from r ⌝ }
+{
+    let mut k = from;
+    while k < ROW_COUNT {
+        let w = row(c, k);
+        if w[place] == b {
+            return k;
+        }
+        k += 1;
+    }
+    k
+}
+
 // The lowest free row of a compartment, 64 where none is free.
 pub fn free_row(c: &[u8]) -> usize
     ensures { λ r. ⌜ r ≡ freeRow (now (c .entry)) ⌝ }
@@ -261,40 +277,15 @@ pub fn free_row(c: &[u8]) -> usize
     if c.len() != COMPARTMENT_SIZE {
         return ROW_COUNT;
     }
-    let mut k = 0;
-    while k < ROW_COUNT {
-        let w = row(c, k);
-        if w[STATE_PLACE] == FREE {
-            return k;
-        }
-        k += 1;
-    }
-    ROW_COUNT
+    next_with(c, 0, STATE_PLACE, FREE)
 }
 
-// The last byte of s, 0 where there is none.
-fn last_byte(s: &[u8]) -> u8
-    ensures { λ r. ⌜ r ≡ getD (now (s .entry)) (length (now (s .entry)) - 1) 0 ⌝ }
-{
-    if s.len() == 0 {
-        return 0;
-    }
-    s[s.len() - 1]
-}
-
-// Whether the number of a row is n; length and last byte are compared first, since numbers begin alike.
+// Whether the number of a row is n.
 fn is_number<'a>(w: &'a [u8], n: &'a [u8]) -> bool
     requires { ⌜ length (now w) ≡ rowSize ⌝ }
     ensures { λ r. ⌜ r ≡ same (number (now (w .entry))) (now (n .entry)) ⌝ }
 {
-    let own = number_of(w);
-    if own.len() != n.len() {
-        return false;
-    }
-    if last_byte(own) != last_byte(n) {
-        return false;
-    }
-    text::equal(own, n)
+    text::equal(number_of(w), n)
 }
 
 // Whether a row is filled and its number is n.
@@ -305,6 +296,22 @@ fn is_filled_with<'a>(w: &'a [u8], n: &'a [u8]) -> bool
     w[STATE_PLACE] != FREE && is_number(w, n)
 }
 
+// The next row, from a row on, that may have the number n: the last byte of n stands in it where the number would end. Numbers begin alike, so
+// that most rows are passed over, and none of these has the number.
+fn next_ending<'a>(c: &'a [u8], from: usize, n: &'a [u8]) -> usize
+    requires { ⌜ (length (now c) ≡ compartmentSize) × (from ≤ rowCount) ⌝ }
+    ensures { λ r. ⌜ (from ≤ r) × (r ≤ rowCount) × NoneIn (λ j. same (number (rowsOf (now (c .entry)) j)) (now (n .entry))) from r ⌝ }
+{
+    let size = n.len();
+    if size == 0 {
+        return from;
+    }
+    if NUMBER_ROOM < size {
+        return from;
+    }
+    next_with(c, from, size + 1, n[size - 1])
+}
+
 // The row of a compartment with the number n, 64 where none has it.
 pub fn row_by_number<'a>(c: &'a [u8], n: &'a [u8]) -> usize
     ensures { λ r. ⌜ r ≡ rowByNumber (now (c .entry)) (now (n .entry)) ⌝ }
@@ -312,12 +319,12 @@ pub fn row_by_number<'a>(c: &'a [u8], n: &'a [u8]) -> usize
     if c.len() != COMPARTMENT_SIZE {
         return ROW_COUNT;
     }
-    let mut k = 0;
+    let mut k = next_ending(c, 0, n);
     while k < ROW_COUNT {
         if is_filled_with(row(c, k), n) {
             return k;
         }
-        k += 1;
+        k = next_ending(c, k + 1, n);
     }
     ROW_COUNT
 }
@@ -337,12 +344,12 @@ pub fn live_row<'a>(c: &'a [u8], n: &'a [u8]) -> usize
     if c.len() != COMPARTMENT_SIZE {
         return ROW_COUNT;
     }
-    let mut k = 0;
+    let mut k = next_ending(c, 0, n);
     while k < ROW_COUNT {
         if is_live_with(row(c, k), n) {
             return k;
         }
-        k += 1;
+        k = next_ending(c, k + 1, n);
     }
     ROW_COUNT
 }

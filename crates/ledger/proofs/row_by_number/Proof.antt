@@ -1,18 +1,19 @@
 use borrow.Author.Needs.{needs}
-use Prim.Native.Nat.{ℕ, _≤_, _<_, _-_}
-use mathlib.Core.Bool.{false}
-use mathlib.Core.Path.{_≡_, ap, sym, _∙_}
+use Prim.Native.Nat.{ℕ, _≤_, _-_}
+use native.Mathlib.Omega.{arith}
 use mathlib.Core.List.{List}
+use mathlib.Core.Path.{_≡_, ap, sym, _∙_}
 use lib.ListN.{length}
-use borrow.Author.Count.{below-none, below-more}
+use Rattle.text.specs.Bytes.{same}
+use Rattle.ledger.specs.Row.{filled, number}
 use Rattle.ledger.specs.Sound.{rowsOf, rowCount, compartmentSize}
-use Rattle.ledger.specs.Lookup.{hasNumber, rowByNumber}
-use Rattle.ledger.proofs.LookupLaws.{row-of-none, row-found, row-missing}
+use Rattle.ledger.specs.Lookup.{NoneIn, hasNumber, rowByNumber}
+use Rattle.ledger.proofs.LookupLaws.{none-both, none-on, row-of-none, row-found, row-missing}
 use Rattle.ledger.proofs.row_by_number.Statement.{statement}
 use Rattle.ledger.proofs.row_by_number.Tie as tie
 
 abbrev Inv-loop : tie.InvT-loop
-Inv-loop c n k₀ k = (k ≤ rowCount) × (length c ≡ compartmentSize) × ((j : ℕ) → j < k → hasNumber (rowsOf c) n j ≡ false)
+Inv-loop c n k₀ k = (k ≤ rowCount) × (length c ≡ compartmentSize) × NoneIn (hasNumber (rowsOf c) n) 0 k
 
 abbrev μ-loop : tie.MeasureT-loop
 μ-loop c n k₀ k = rowCount - k
@@ -20,11 +21,17 @@ abbrev μ-loop : tie.MeasureT-loop
 returns : tie.Need-returns Inv-loop μ-loop
 unfolding rowByNumber
 returns c =
-    let c-args = c .before .before .before .args in
-    row-of-none (c-args .c .now) (hasNumber (rowsOf (c-args .c .now)) (c-args .n .now)) (c .if1 .taken)
+    let args = c .before .before .before .args in
+    row-of-none (args .c .now) (hasNumber (rowsOf (args .c .now)) (args .n .now)) (c .if1 .taken)
+
+next-ending-requires : tie.Need-next-ending-requires Inv-loop μ-loop
+next-ending-requires c κs = search needs
 
 loop-holds : tie.Need-loop-holds Inv-loop μ-loop
-loop-holds c = (search needs, c .if1 .left, below-none _)
+loop-holds c =
+    let args = c .before .before .before .before .args in
+    let found = c .next-ending .ensures in
+    (found .1, c .before .if1 .left, none-both (λ j. filled (rowsOf (args .c .now) j)) (λ j. same (number (rowsOf (args .c .now) j)) (args .n .now)) _ _ (found .2))
 
 row-requires : tie.Need-row-requires Inv-loop μ-loop
 row-requires c κs = search needs
@@ -33,10 +40,10 @@ is-filled-with-requires : tie.Need-is-filled-with-requires Inv-loop μ-loop
 is-filled-with-requires c κs = search needs
 
 passes : (c : tie.After-is-filled-with Inv-loop μ-loop)
-    → let args = c .before .before .before .before .before .before .before .args in
+    → let args = c .before .before .before .before .before .before .before .before .args in
     hasNumber (rowsOf (args .c .now)) (args .n .now) (c .before .before .before .loop .k) ≡ c .is-filled-with .result
 passes c =
-    let n = c .before .before .before .before .before .before .before .args .n .now in
+    let n = c .before .before .before .before .before .before .before .before .args .n .now in
     sym (c .is-filled-with .ensures ∙ ap (λ (w : List ℕ). hasNumber (λ k. w) n 0) (c .before .row .ensures .0))
 
 returns-2 : tie.Need-returns-2 Inv-loop μ-loop
@@ -44,25 +51,34 @@ unfolding rowByNumber
 returns-2 c =
     let turn = c .before .before .before in
     let l = turn .before .loop in
-    let bytes = turn .before .before .before .before .before .args .c .now in
+    let bytes = turn .before .before .before .before .before .before .args .c .now in
     row-found bytes _ (l .k) (l .inv .1) (turn .loop-test .taken) (l .inv .2) (passes (c .before) ∙ c .if2 .taken)
 
-add-k : tie.Need-add-k Inv-loop μ-loop
-add-k c = search needs
+add-next-ending : tie.Need-add-next-ending Inv-loop μ-loop
+add-next-ending c = search needs
+
+next-ending-requires-2 : tie.Need-next-ending-requires-2 Inv-loop μ-loop
+next-ending-requires-2 c κs = search needs
 
 loop-less : tie.Need-loop-less Inv-loop μ-loop
-loop-less c = search needs
+loop-less c = omega (arith, c .next-ending2 .ensures .0, c .before .before .before .before .loop-test .taken)
 
 loop-again : tie.Need-loop-again Inv-loop μ-loop
 loop-again c =
-    let l = c .before .before .before .before .loop in
-    (search needs, l .inv .1, below-more _ _ (l .inv .2) (passes (c .before) ∙ c .if2 .left))
+    let l = c .before .before .before .before .before .loop in
+    let args = c .before .before .before .before .before .before .before .before .before .before .args in
+    let found = c .next-ending2 .ensures in (
+      found .1,
+      l .inv .1,
+      none-on (λ j. filled (rowsOf (args .c .now) j)) (λ j. same (number (rowsOf (args .c .now) j)) (args .n .now)) (l .k) _ (l .inv .2)
+          (passes (c .before .before) ∙ c .before .if2 .left) (found .2),
+    )
 
 returns-3 : tie.Need-returns-3 Inv-loop μ-loop
 unfolding rowByNumber
 returns-3 c =
     let l = c .before .loop in
-    let args = c .before .before .before .before .before .args in
+    let args = c .before .before .before .before .before .before .args in
     row-missing (args .c .now) (hasNumber (rowsOf (args .c .now)) (args .n .now)) _ (l .inv .1) (c .loop-test .left) (l .inv .2)
 
 pub row-by-number-spec : {M : Type 1} → statement M
@@ -72,11 +88,13 @@ row-by-number-spec =
     Inv-loop
     μ-loop
     returns
+    next-ending-requires
     loop-holds
     row-requires
     is-filled-with-requires
     returns-2
-    add-k
+    add-next-ending
+    next-ending-requires-2
     loop-less
     loop-again
     returns-3)
