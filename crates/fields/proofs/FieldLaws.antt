@@ -89,6 +89,20 @@ module _ (s stops : List ℕ) (found i : ℕ) (e : semicolons s ≡ take found s
       sym (stops-whole s (eq-eqb _ 38 w) ∙ rw q (sym (take-suc-set stops 38 (length s) (omega arith)))
       ∙ take-all 39 (set stops 38 (length s)) (simp length-set (omega arith)))
 
+-- a record has no more semicolons than bytes
+semicolons-most : (at : ℕ) (s : List ℕ) → length (semicolonsFrom at s) ≤ length s
+unfolding semicolonsFrom
+semicolons-most at [] = zero-le
+semicolons-most at (x ∷ xs) = go (eqb x (code ";")) (semicolons-most (suc at) xs)
+  where
+    go : (t : Bool) → length (semicolonsFrom (suc at) xs) ≤ length xs
+        → length (cond t (at ∷ semicolonsFrom (suc at) xs) (semicolonsFrom (suc at) xs)) ≤ suc (length xs)
+    go true h = omega arith
+    go false h = omega arith
+
+pub index-short : (s : List ℕ) → length s < 38 → replicate 39 0 ≡ stopsOf s
+index-short s h = stops-none s (λ k. omega (arith, k, semicolons-most 0 s))
+
 -- where a field lies by an index, as the tests of its number and of its end come out
 module _ (size : ℕ) (stops : List ℕ) (n : ℕ) where
   pub place-below : n < 1 → emptyPlace ≡ placeIn size stops n
