@@ -1,12 +1,13 @@
 -- A record of fewer bytes has fewer semicolons.
 -- Assumes nothing.
 use borrow.Author.Needs.{needs}
+use native.Mathlib.Omega.{arith}
 use Rattle.fields.proofs.FieldLaws.{index-short}
 use Rattle.fields.proofs.index.Statement.{statement}
 use Rattle.fields.proofs.index.Tie as tie
 
 returns : tie.Need-returns
-returns c = index-short _ (c .if1 .taken)
+returns c = index-short (c .before .before .args .s .now) (omega arith)
 
 returns-2 : tie.Need-returns-2
 returns-2 c = search needs
