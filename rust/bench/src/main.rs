@@ -1,8 +1,8 @@
 //! The proved archive timed beside its twin, on the same inputs in the same run.
 //!
-//! - `bench [COUNTS]` prints one table; lines `ROW SIDE INSTRUCTIONS` of the file COUNTS fill its
-//!   columns of instructions.
-//! - `bench rows` lists the rows.
+//! - `bench [COUNTS]` prints a table of the usual cases and one of the worst; lines `ROW SIDE
+//!   INSTRUCTIONS` of the file COUNTS fill their columns of instructions.
+//! - `bench rows` lists the rows of both.
 //! - `bench count SIDE ROW REPS` makes the calls of a row and nothing else, for a counter of
 //!   instructions. SIDE is `proved`, `twin`, or `none`, which only restores the ledger.
 
@@ -159,19 +159,20 @@ fn read_counts(path: &str) -> Option<HashMap<(String, String), u64>> {
     lines.collect()
 }
 
-fn print_table(counts: &HashMap<(String, String), u64>) -> ExitCode {
-    let mut desks: Vec<Desk> = rows::ALL.iter().map(Desk::new).collect();
-    for (desk, row) in desks.iter_mut().zip(&rows::ALL) {
+/// Prints the rows of one table, or says in which of them the two sides differ.
+fn print_rows(title: &str, rows: &[rows::Row], counts: &HashMap<(String, String), u64>) -> bool {
+    let mut desks: Vec<Desk> = rows.iter().map(Desk::new).collect();
+    for (desk, row) in desks.iter_mut().zip(rows) {
         if !desk.agrees() {
             println!("the two sides differ in row {}", row.name);
-            return ExitCode::FAILURE;
+            return false;
         }
     }
     println!(
-        "{:<17} {:>10} {:>10} {:>6}  {:>12} {:>12} {:>6}",
-        "row", "proved ns", "twin ns", "ratio", "proved instr", "twin instr", "ratio"
+        "{title:<17} {:>10} {:>10} {:>6}  {:>12} {:>12} {:>6}",
+        "proved ns", "twin ns", "ratio", "proved instr", "twin instr", "ratio"
     );
-    for (row, (proved, twin)) in rows::ALL.iter().zip(measure(&mut desks)) {
+    for (row, (proved, twin)) in rows.iter().zip(measure(&mut desks)) {
         let count = |side: &str| {
             counts
                 .get(&(row.name.to_string(), side.to_string()))
@@ -188,7 +189,19 @@ fn print_table(counts: &HashMap<(String, String), u64>) -> ExitCode {
         let name = row.name;
         println!("{name:<17} {proved:>10.0} {twin:>10.0} {ratio:>6.2}  {instructions}");
     }
-    ExitCode::SUCCESS
+    true
+}
+
+fn print_tables(counts: &HashMap<(String, String), u64>) -> ExitCode {
+    let printed = print_rows("row", &rows::USUAL, counts) && {
+        println!();
+        print_rows("worst case", &rows::WORST, counts)
+    };
+    if printed {
+        ExitCode::SUCCESS
+    } else {
+        ExitCode::FAILURE
+    }
 }
 
 /// Makes the calls of a row and nothing else.
@@ -199,7 +212,7 @@ fn count(side: &str, row: &str, reps: &str) -> Option<()> {
         "none" => Side::None,
         _ => return None,
     };
-    let row = rows::ALL.iter().find(|known| known.name == row)?;
+    let row = rows::all().find(|known| known.name == row)?;
     let mut desk = Desk::new(row);
     for _ in 0..reps.parse().ok()? {
         desk.restore();
@@ -212,14 +225,14 @@ fn main() -> ExitCode {
     let arguments: Vec<String> = env::args().skip(1).collect();
     let arguments: Vec<&str> = arguments.iter().map(String::as_str).collect();
     match arguments[..] {
-        [] => print_table(&HashMap::new()),
+        [] => print_tables(&HashMap::new()),
         ["rows"] => {
-            rows::ALL.iter().for_each(|row| println!("{}", row.name));
+            rows::all().for_each(|row| println!("{}", row.name));
             ExitCode::SUCCESS
         }
         ["count", side, row, reps] if count(side, row, reps).is_some() => ExitCode::SUCCESS,
         [path] => match read_counts(path) {
-            Some(counts) => print_table(&counts),
+            Some(counts) => print_tables(&counts),
             None => {
                 eprintln!("cannot read the counts in {path}");
                 ExitCode::FAILURE

@@ -17,6 +17,8 @@ pub enum Call {
     File(usize),
     /// Records of a few bytes in a file.
     ShortFile(usize),
+    /// Records of as many bytes as valid ones, all of them spaces, in a file.
+    SpacedFile(usize),
     /// One valid record.
     Single,
     /// Valid records in a file, and no room for an answer: refused by 12 once the file is opened.
@@ -33,19 +35,40 @@ pub enum Fill {
     Full,
 }
 
+/// The numbers of the ledger's rows and of the records.
+#[derive(Clone, Copy)]
+pub enum Numbers {
+    Usual,
+    /// Two equal halves: all fall into one slot of the test for doubles.
+    OneSlot,
+    /// One length, one beginning and one last byte: each is a candidate in the search for another.
+    OneEnd,
+}
+
 /// One row of the benchmark.
 #[derive(Clone, Copy)]
 pub struct Row {
     pub name: &'static str,
     pub call: Call,
     pub fill: Fill,
+    pub numbers: Numbers,
 }
 
 const fn row(name: &'static str, call: Call, fill: Fill) -> Row {
-    Row { name, call, fill }
+    worst(name, call, fill, Numbers::Usual)
 }
 
-pub const ALL: [Row; 18] = [
+const fn worst(name: &'static str, call: Call, fill: Fill, numbers: Numbers) -> Row {
+    Row {
+        name,
+        call,
+        fill,
+        numbers,
+    }
+}
+
+/// The usual cases.
+pub const USUAL: [Row; 18] = [
     row("single-empty", Call::Single, Fill::Empty),
     row("single-full", Call::Single, Fill::Full),
     row("file-1-empty", Call::File(1), Fill::Empty),
@@ -66,6 +89,23 @@ pub const ALL: [Row; 18] = [
     row("unopened-250", Call::Unopened(250), Fill::Empty),
 ];
 
+/// What the proved code's short cuts are worst at.
+pub const WORST: [Row; 3] = [
+    worst("one-slot-full", Call::Single, Fill::Full, Numbers::OneSlot),
+    worst(
+        "one-end-250-half",
+        Call::File(250),
+        Fill::Half,
+        Numbers::OneEnd,
+    ),
+    row("spaces-250-empty", Call::SpacedFile(250), Fill::Empty),
+];
+
+/// The rows of both tables.
+pub fn all() -> impl Iterator<Item = &'static Row> {
+    USUAL.iter().chain(&WORST)
+}
+
 /// What a row's call is lent.
 pub struct Inputs {
     pub reporters: Vec<u8>,
@@ -85,32 +125,57 @@ pub struct Inputs {
 
 impl Row {
     pub fn inputs(&self) -> Inputs {
-        let valid = |count| file((0..count).map(valid_record));
+        let record = |at| valid_record(at, &self.numbers.new(at));
+        let valid = |count| file((0..count).map(record));
         let (text, room, reply) = match self.call {
-            Call::Single => (valid_record(0).into_bytes(), 1, 0),
+            Call::Single => (record(0).into_bytes(), 1, 0),
             Call::File(count) => (valid(count), count, count as u64),
             Call::ShortFile(count) => (file((0..count).map(short_record)), count, count as u64),
+            Call::SpacedFile(count) => (file((0..count).map(spaced_record)), count, count as u64),
             Call::Opened(count) => (valid(count), 0, FILE_REFUSED + 12),
             Call::Unopened(count) => (without_head(valid(count)), 0, FILE_REFUSED + 5),
         };
         let booked = match (self.call, self.fill) {
-            (Call::ShortFile(_), _) | (_, Fill::Full) => 0,
+            (Call::ShortFile(_) | Call::SpacedFile(_), _) | (_, Fill::Full) => 0,
             _ => room,
         };
         Inputs {
             reporters: (0..BANKS).flat_map(reporter).collect(),
             currencies: currencies(),
-            ledger: ledger(match self.fill {
-                Fill::Empty => 0,
-                Fill::Half => ROWS / 2,
-                Fill::Full => ROWS,
-            }),
+            ledger: ledger(
+                match self.fill {
+                    Fill::Empty => 0,
+                    Fill::Half => ROWS / 2,
+                    Fill::Full => ROWS,
+                },
+                self.numbers,
+            ),
             sender: SENDER.into(),
             text,
             is_file: !matches!(self.call, Call::Single),
             room,
             reply,
             booked,
+        }
+    }
+}
+
+impl Numbers {
+    /// The number of a row of the ledger.
+    fn old(self, at: usize) -> String {
+        match self {
+            Numbers::Usual => format!("OLD{at:05}"),
+            Numbers::OneSlot => format!("OLD{at:05}").repeat(2),
+            Numbers::OneEnd => format!("TRADEOLD{at:07}X"),
+        }
+    }
+
+    /// The number of a record.
+    fn new(self, at: usize) -> String {
+        match self {
+            Numbers::Usual => format!("NEW{at}"),
+            Numbers::OneSlot => format!("NEW{at:05}").repeat(2),
+            Numbers::OneEnd => format!("TRADENEW{at:07}X"),
         }
     }
 }
@@ -139,18 +204,23 @@ fn currencies() -> Vec<u8> {
 }
 
 /// A record like R1 of document 01, of one bank after the other.
-fn valid_record(at: usize) -> String {
+fn valid_record(at: usize, number: &str) -> String {
     let bank = at % BANKS;
     let quantity = 1_500 + at;
     format!(
         "B;98{bank:03};I;4711;;;B;20130903;101500;;;;;WBAH;J;;;N;S;AT0000831706;XXX;\
-         {quantity};1;EUR;54,7;;;K;;;;;;;;;;N;NEW{at}"
+         {quantity};1;EUR;54,7;;;K;;;;;;;;;;N;{number}"
     )
 }
 
 /// Nothing, or a few bytes.
 fn short_record(at: usize) -> String {
     ["", "A", ";", "B;98001", "", "test"][at % 6].to_string()
+}
+
+/// As long as a valid record.
+fn spaced_record(at: usize) -> String {
+    " ".repeat(valid_record(at, &Numbers::Usual.new(at)).len())
 }
 
 fn file(records: impl Iterator<Item = String>) -> Vec<u8> {
@@ -169,11 +239,11 @@ fn without_head(mut file: Vec<u8>) -> Vec<u8> {
 
 /// A sound ledger with this many rows in each compartment: live ones, and every fourth row
 /// cancelled by the one after it.
-fn ledger(filled: usize) -> Vec<u8> {
+fn ledger(filled: usize, numbers: Numbers) -> Vec<u8> {
     let mut ledger = vec![0; LEDGER_SIZE];
     for compartment in ledger.chunks_mut(ROWS * ROW_SIZE) {
         for (at, row) in compartment.chunks_mut(ROW_SIZE).take(filled).enumerate() {
-            let number = format!("OLD{at:05}");
+            let number = numbers.old(at);
             let (state, partner) = match at % 4 {
                 2 => (2, at as u16 + 1),
                 3 => (3, at as u16 - 1),
