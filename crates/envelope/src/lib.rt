@@ -150,14 +150,14 @@ fn blocks_end(s: &[u8], at: usize) -> usize
     run_end(s, p, Class::RecordByte)
 }
 
-// The end of the record at a place; one that is empty, or begins low, is not worth a block.
+// The end of the record at a place; an empty one, whose CR stands there, is not worth a block.
 fn record_end(s: &[u8], at: usize) -> usize
     ensures { λ r. ⌜ r ≡ at + runOf RecordByte (drop at (now (s .entry))) ⌝ }
 {
-    if at < s.len() && text::belongs(Class::AboveApostrophe, s[at]) {
-        return blocks_end(s, at);
+    if at < s.len() && s[at] == b'\r' {
+        return at;
     }
-    run_end(s, at, Class::RecordByte)
+    blocks_end(s, at)
 }
 
 // The end of the line at a place: a record, then CR LF.

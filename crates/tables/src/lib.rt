@@ -154,18 +154,11 @@ pub fn reporters_ok(t: &[u8]) -> bool
     true
 }
 
-// Whether a bank code is f; the last two digits are compared first, since codes begin alike.
-fn is_code<'a>(code: &'a [u8], f: &'a [u8]) -> bool
-    ensures { λ r. ⌜ r ≡ same (now (code .entry)) (now (f .entry)) ⌝ }
-{
-    text::read_u16(code, 3) == text::read_u16(f, 3) && text::equal(code, f)
-}
-
 // Whether row k has the bank code f.
 pub fn has_code<'a>(t: &'a [u8], f: &'a [u8], k: usize) -> bool
     ensures { λ r. ⌜ r ≡ hasCode (now (t .entry)) (now (f .entry)) k ⌝ }
 {
-    k < reporter_count(t) && is_code(code_of(row(t, k)), f)
+    k < reporter_count(t) && text::equal(code_of(row(t, k)), f)
 }
 
 // Whether row k has the address f, which may lack the XXX at its end.

@@ -10,8 +10,8 @@ use native.Mathlib.Omega.{arith}
 use borrow.Author.Tests.{eq-eqb, ne-eqb, eqb-true, eqb-false, leb-true}
 use lib.Bits.{bitOr, or-zero-l, or-add-and, and-le-r}
 use lib.Dec.{eqb, leb, ltb}
-use lib.ListN.{length, getD, take, drop, length-drop, drop-of-length-le, take-append-drop}
-use lib.Seq.{drop-cons, drop-drop, take-all, take-add}
+use lib.ListN.{length, getD, take, drop, length-take, length-drop, drop-of-length-le, take-append-drop}
+use lib.Seq.{drop-cons, drop-drop, take-suc, take-all, take-add}
 use Rattle.frame.specs.Every.{every}
 use Rattle.frame.specs.Parts.{part}
 use Rattle.frame.proofs.BoolLaws.{and-left, and-right, and-intro, and-false, and-true, and-assoc}
@@ -61,19 +61,36 @@ module _ (p : ℕ → Bool) (s : List ℕ) (i j : ℕ) (e : all p s ≡ all p (d
   pub block-stop : r ≡ false → false ≡ all p s
   block-stop q = sym (block-and-rest ∙ rw q refl)
 
--- what a loop over two lists of one length knows at place i: they are the same where their rests from i on are
-module _ (s t : List ℕ) (i : ℕ) (l : length s ≡ length t) (e : same s t ≡ same (drop i s) (drop i t)) where
-  pub same-go : i < length s → getD s i 0 ≡ getD t i 0 → same s t ≡ same (drop (i + 1) s) (drop (i + 1) t)
-  unfolding same
-  same-go h q = let k : i < length t = rw l at h in e ∙ rw (add-one, drop-cons s i 0, drop-cons t i 0, eq-eqb _ _ q) refl
+-- what a loop from the end of two lists of one length knows at place i: they are the same where their first i are
+same-snoc : (s t : List ℕ) (x y : ℕ) → length s ≡ length t → same (s ++ (x ∷ [])) (t ++ (y ∷ [])) ≡ same s t && eqb x y
+unfolding same
+same-snoc [] [] x y l = and-true (eqb x y)
+same-snoc [] (b ∷ t) x y l = absurd (omega arith)
+same-snoc (a ∷ s) [] x y l = absurd (omega arith)
+same-snoc (a ∷ s) (b ∷ t) x y l = rw (same-snoc s t x y (omega arith)) (and-assoc (eqb a b) _ _)
 
-  pub same-stop : i < length s → (getD s i 0 ≡ getD t i 0 → ⊥) → false ≡ same s t
-  unfolding same
-  same-stop h n = let k : i < length t = rw l at h in sym (e ∙ rw (drop-cons s i 0, drop-cons t i 0, ne-eqb _ _ n) refl)
+module _ (s t : List ℕ) (l : length s ≡ length t) where
+  pub same-all : same s t ≡ same (take (length s) s) (take (length s) t)
+  same-all = rw (take-all (length s) s (le-of-eq refl), take-all (length s) t (le-of-eq (sym l))) refl
 
-  pub same-end : length s ≤ i → true ≡ same s t
+  module _ (i : ℕ) (e : same s t ≡ same (take i s) (take i t)) (pos : 0 < i) (h : i ≤ length s) where
+    last-apart : same s t ≡ same (take (i - 1) s) (take (i - 1) t) && eqb (getD s (i - 1) 0) (getD t (i - 1) 0)
+    last-apart =
+        let next : i ≡ suc (i - 1) = omega arith in
+        let lengths : length (take (i - 1) s) ≡ length (take (i - 1) t) = simp length-take (omega arith) in
+        e ∙ ap (λ (n : ℕ). same (take n s) (take n t)) next
+        ∙ rw (take-suc s (i - 1) 0 (omega arith), take-suc t (i - 1) 0 (omega arith)) (same-snoc (take (i - 1) s) (take (i - 1) t) _ _ lengths)
+
+    pub same-go : getD s (i - 1) 0 ≡ getD t (i - 1) 0 → same s t ≡ same (take (i - 1) s) (take (i - 1) t)
+    same-go q = last-apart ∙ rw (eq-eqb _ _ q) (and-true _)
+
+    pub same-stop : (getD s (i - 1) 0 ≡ getD t (i - 1) 0 → ⊥) → false ≡ same s t
+    same-stop n = sym (last-apart ∙ rw (ne-eqb _ _ n, and-false) refl)
+
+  pub same-end : (i : ℕ) → same s t ≡ same (take i s) (take i t) → i ≤ 0 → true ≡ same s t
   unfolding same
-  same-end h = let k : length t ≤ i = rw l at h in sym (e ∙ rw (drop-of-length-le s h, drop-of-length-le t k) refl)
+  same-end zero e h = sym e
+  same-end (suc i) e h = absurd (omega arith)
 
 module _ (b : ℕ) (s : List ℕ) (i : ℕ) (e : positionOf b s ≡ i + positionOf b (drop i s)) where
   pub position-go : i < length s → (getD s i 0 ≡ b → ⊥) → positionOf b s ≡ (i + 1) + positionOf b (drop (i + 1) s)

@@ -95,18 +95,17 @@ pub fn all(c: Class, s: &[u8]) -> bool
     marks == 0
 }
 
-// Whether a and b hold the same bytes.
+// Whether a and b hold the same bytes; the last are compared first, since numbers and bank codes begin alike.
 pub fn equal(a: &[u8], b: &[u8]) -> bool
     ensures { λ r. ⌜ r ≡ same (now (a .entry)) (now (b .entry)) ⌝ }
 {
     if a.len() != b.len() {
         return false;
     }
-    let mut i = 0;
-    while i < a.len() {
-        if a[i] == b[i] {
-            i += 1;
-        } else {
+    let mut i = a.len();
+    while 0 < i {
+        i -= 1;
+        if a[i] != b[i] {
             return false;
         }
     }

@@ -17,7 +17,7 @@ returns c =
     rw (
       ← inside .before .reporter-count .ensures,
       lt-ltb _ _ (inside .if1 .taken),
-      c .is-code .ensures,
+      c .equal .ensures,
       c .before .code-of .ensures,
       c .before .before .row .ensures,
     ) refl

@@ -1,23 +1,26 @@
 use borrow.Author.Needs.{needs}
-use Prim.Native.Nat.{_≤_, _-_}
+use Prim.Native.Nat.{_≤_}
 use mathlib.Core.Path.{_≡_}
-use lib.ListN.{length, drop}
+use lib.ListN.{length, take}
 use Rattle.text.specs.Bytes.{same}
-use Rattle.text.proofs.ByteLaws.{same-go, same-stop, same-end, same-apart}
+use Rattle.text.proofs.ByteLaws.{same-all, same-go, same-stop, same-end, same-apart}
 use Rattle.text.proofs.equal.Statement.{statement}
 use Rattle.text.proofs.equal.Tie as tie
 
 abbrev Inv-loop : tie.InvT-loop
-Inv-loop a b i₀ i = (i ≤ length a) × (length a ≡ length b) × (same a b ≡ same (drop i a) (drop i b))
+Inv-loop a b i₀ i = (i ≤ length a) × (length a ≡ length b) × (same a b ≡ same (take i a) (take i b))
 
 abbrev μ-loop : tie.MeasureT-loop
-μ-loop a b i₀ i = length a - i
+μ-loop a b i₀ i = i
 
 returns : tie.Need-returns Inv-loop μ-loop
 returns c = same-apart length _ _ (c .if1 .taken)
 
 loop-holds : tie.Need-loop-holds Inv-loop μ-loop
-loop-holds c = search needs
+loop-holds c = (search needs, c .if1 .left, same-all _ _ (c .if1 .left))
+
+sub-i : tie.Need-sub-i Inv-loop μ-loop
+sub-i c = search needs
 
 shared-slice-read-if2 : tie.Need-shared-slice-read-if2 Inv-loop μ-loop
 shared-slice-read-if2 c = search needs
@@ -25,8 +28,11 @@ shared-slice-read-if2 c = search needs
 shared-slice-read-if2-2 : tie.Need-shared-slice-read-if2-2 Inv-loop μ-loop
 shared-slice-read-if2-2 c = search needs
 
-add-i : tie.Need-add-i Inv-loop μ-loop
-add-i c = search needs
+returns-2 : tie.Need-returns-2 Inv-loop μ-loop
+returns-2 c =
+    let turn = c .before .before .before in
+    let inv = turn .before .loop .inv in
+    same-stop _ _ (inv .1) _ (inv .2) (turn .loop-test .taken) (inv .0) (c .if2 .taken)
 
 loop-less : tie.Need-loop-less Inv-loop μ-loop
 loop-less c = search needs
@@ -35,16 +41,10 @@ loop-again : tie.Need-loop-again Inv-loop μ-loop
 loop-again c =
     let turn = c .before .before .before in
     let inv = turn .before .loop .inv in
-    (search needs, search needs, same-go _ _ _ (inv .1) (inv .2) (turn .loop-test .taken) (c .if2 .taken))
-
-returns-2 : tie.Need-returns-2 Inv-loop μ-loop
-returns-2 c =
-    let turn = c .before .before .before in
-    let inv = turn .before .loop .inv in
-    same-stop _ _ _ (inv .1) (inv .2) (turn .loop-test .taken) (c .if2 .left)
+    (search needs, inv .1, same-go _ _ (inv .1) _ (inv .2) (turn .loop-test .taken) (inv .0) (c .if2 .left))
 
 returns-3 : tie.Need-returns-3 Inv-loop μ-loop
-returns-3 c = same-end _ _ _ (c .before .loop .inv .1) (c .before .loop .inv .2) (c .loop-test .left)
+returns-3 c = same-end _ _ (c .before .loop .inv .1) _ (c .before .loop .inv .2) (c .loop-test .left)
 
 pub equal-spec : {M : Type 1} → statement M
 equal-spec =
@@ -54,10 +54,10 @@ equal-spec =
     μ-loop
     returns
     loop-holds
+    sub-i
     shared-slice-read-if2
     shared-slice-read-if2-2
-    add-i
+    returns-2
     loop-less
     loop-again
-    returns-2
     returns-3)
