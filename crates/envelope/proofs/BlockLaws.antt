@@ -6,8 +6,9 @@ use native.Mathlib.Omega.{arith}
 use mathlib.Core.Bool.{Bool, true, false, cond}
 use mathlib.Core.List.{List, [], _∷_}
 use mathlib.Core.Path.{_≡_, refl, ap, _∙_}
-use borrow.Author.Tests.{ltb-true, ne-eqb}
-use lib.ListN.{length, take, drop, length-drop}
+use borrow.Author.Tests.{ltb-true, ne-eqb, eqb-true}
+use lib.Dec.{eqb}
+use lib.ListN.{length, getD, take, drop, length-drop}
 use lib.Seq.{drop-drop}
 use Rattle.frame.proofs.BoolLaws.{and-left, and-right}
 use Rattle.text.specs.declared.Class.{Class}
@@ -16,6 +17,7 @@ use Rattle.text.specs.Class.{belongsTo}
 use Rattle.text.specs.Bytes.{all}
 use Rattle.text.proofs.ByteLaws.{all-weaker}
 use Rattle.envelope.specs.Pieces.{runOf}
+use Rattle.envelope.proofs.PieceLaws.{run-stop}
 
 run-whole : (k : Class) (l : List ℕ) → all (belongsTo k) l ≡ true → length l ≡ runOf k l
 unfolding all runOf
@@ -29,6 +31,10 @@ above-record b e =
 
 pub above-run : (l : List ℕ) → all (belongsTo AboveApostrophe) l ≡ true → length l ≡ runOf RecordByte l
 above-run l e = run-whole RecordByte l (all-weaker (belongsTo AboveApostrophe) (belongsTo RecordByte) above-record l e)
+
+-- an empty record ends where its CR stands
+pub record-empty : (s : List ℕ) (at : ℕ) → at < length s → eqb (getD s at 0) 13 ≡ true → at ≡ at + runOf RecordByte (drop at s)
+record-empty s at h e = run-stop RecordByte s at h (rw (eqb-true (getD s at 0) 13 e))
 
 -- a run that ends within the first n is the list's; one that doesn't goes on behind them
 run-front : (k : Class) (n : ℕ) (l : List ℕ) → runOf k (take n l) < n → n ≤ length l → runOf k (take n l) ≡ runOf k l

@@ -1,6 +1,5 @@
 use borrow.Author.Needs.{needs}
-use Rattle.text.specs.declared.Class.the-variants.{RecordByte}
-use Rattle.envelope.proofs.PieceLaws.{run-stop}
+use Rattle.envelope.proofs.BlockLaws.{record-empty}
 use Rattle.envelope.proofs.record_end.Statement.{statement}
 use Rattle.envelope.proofs.record_end.Tie as tie
 
@@ -10,7 +9,7 @@ shared-slice-read-if2 c = search needs
 returns : tie.Need-returns
 returns c =
     let args = c .before .before .before .before .args in
-    run-stop RecordByte (args .s .now) (args .at) (c .before .before .if1 .taken) (rw (c .if2 .taken))
+    record-empty (args .s .now) (args .at) (c .before .before .if1 .taken) (c .if2 .taken)
 
 returns-2 : tie.Need-returns-2
 returns-2 c = c .blocks-end .ensures
