@@ -11,7 +11,7 @@ use text::Class;
 // The most records of a file.
 const RECORD_COUNT_LIMIT: usize = 1024;
 
-// The bytes that are tested at once.
+// The bytes of a record that are tested at once.
 const BLOCK_SIZE: usize = 16;
 
 // Where a piece ends, or that it is not there.

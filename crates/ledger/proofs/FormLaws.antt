@@ -6,10 +6,10 @@ use mathlib.Core.Bool.{Bool, true, false, _&&_, _||_, false≢true}
 use mathlib.Core.List.{List, [], _∷_, _++_}
 use mathlib.Core.Path.{_≡_, refl, ap, subst, sym, _∙_}
 use borrow.Author.Tests.{eq-eqb, ne-eqb, eqb-true, leb-true, lt-ltb, ltb-true}
-use lib.Dec.{eqb, leb, ltb}
+use lib.Dec.{eqb, leb}
 use lib.ListN.{length, take, drop, length-append, length-take, length-drop, take-append-drop}
 use lib.Seq.{drop-at, take-take, take-add, drop-drop, take-append-seam}
-use Rattle.frame.proofs.BoolLaws.{and-left, and-right, and-intro, and-assoc}
+use Rattle.frame.proofs.BoolLaws.{and-left, and-right, and-intro}
 use Rattle.text.specs.Class.{isZero, isCapitalOrDigit}
 use Rattle.text.specs.Bytes.{all, same, positionOf}
 use Rattle.text.specs.Number.{littleEndian, numberAt}

@@ -8,16 +8,15 @@ use mathlib.Core.List.{List}
 use mathlib.Core.Path.{_≡_, refl, ap, sym, _∙_}
 use borrow.Author.Tests.{eq-eqb, ne-eqb, eqb-false}
 use lib.Dec.{eqb}
-use lib.ListN.{length, getD, take, drop, length-take}
+use lib.ListN.{length, getD, drop, length-take}
 use lib.Seq.{getD-take, getD-drop}
 use Rattle.frame.specs.Every.{howMany}
 use Rattle.frame.proofs.BoolLaws.{and-false}
 use Rattle.frame.proofs.LeastLaws.{least-is, least-none}
-use Rattle.text.specs.Bytes.{same}
 use Rattle.text.proofs.ByteLaws.{same-true}
 use Rattle.ledger.specs.Row.{filled, number, numberLength}
 use Rattle.ledger.specs.Sound.{Rows, rowsOf, rowCount, compartmentSize}
-use Rattle.ledger.specs.Lookup.{NoneIn, FirstFrom, firstRow, filledRows}
+use Rattle.ledger.specs.Lookup.{NoneIn, FirstFrom, isNamed, firstRow, filledRows}
 
 -- what a search from a row on knows: at its start, and after a row more that doesn't pass
 module _ (p : ℕ → Bool) (from : ℕ) where
@@ -72,10 +71,10 @@ number-end w n e h =
 
 -- rows in which the last byte of n doesn't stand there have other numbers
 pub none-ending : (ρ : Rows) (n : List ℕ) (from to : ℕ) → 0 < length n
-    → NoneIn (λ j. eqb (getD (ρ j) (length n + 1) 0) (getD n (length n - 1) 0)) from to → NoneIn (λ j. same (number (ρ j)) n) from to
-none-ending ρ n from to h f j g l = go (same (number (ρ j)) n) refl
+    → NoneIn (λ j. eqb (getD (ρ j) (length n + 1) 0) (getD n (length n - 1) 0)) from to → NoneIn (isNamed ρ n) from to
+none-ending ρ n from to h f j g l = go (isNamed ρ n j) refl
   where
-    go : (b : Bool) → same (number (ρ j)) n ≡ b → b ≡ false
+    go : (b : Bool) → isNamed ρ n j ≡ b → b ≡ false
     go true e = absurd (eqb-false _ _ (f j g l) (number-end (ρ j) n (same-true (number (ρ j)) n e) h))
     go false e = refl
 

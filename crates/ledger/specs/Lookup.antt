@@ -29,11 +29,15 @@ pub record FirstFrom (p : ℕ → Bool) (from r : ℕ) : Type 0 where
 abbrev pub isFree : Rows → ℕ → Bool
 isFree ρ k = eqb (state (ρ k)) free
 
+-- row k has the number n, in whatever state it is
+abbrev pub isNamed : Rows → List ℕ → ℕ → Bool
+isNamed ρ n k = same (number (ρ k)) n
+
 abbrev pub hasNumber : Rows → List ℕ → ℕ → Bool
-hasNumber ρ n k = filled (ρ k) && same (number (ρ k)) n
+hasNumber ρ n k = filled (ρ k) && isNamed ρ n k
 
 abbrev pub isLive : Rows → List ℕ → ℕ → Bool
-isLive ρ n k = eqb (state (ρ k)) live && same (number (ρ k)) n
+isLive ρ n k = eqb (state (ρ k)) live && isNamed ρ n k
 
 -- the lowest free row
 unfoldable pub freeRow : List ℕ → ℕ

@@ -1,4 +1,4 @@
--- Slots, by which the soundness check tells most numbers apart: rows of two slots have two numbers.
+-- Slots, by which the soundness check tells most numbers apart: rows of two slots have two numbers. Document 01 does not speak of them.
 -- Assumes nothing.
 use Prim.Native.Nat.{ℕ, _%_, _<_}
 use mathlib.Core.List.{List}

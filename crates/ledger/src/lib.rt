@@ -11,7 +11,7 @@ ghost use Rattle.ledger.specs.Row.{rowSize, live, state, filled, number,
 ghost use Rattle.ledger.specs.Sound.{rowCount, compartmentSize, rowsOf, pointsBack, linked, precedes, soundRow, soundCompartment};
 ghost use Rattle.ledger.specs.Sound.{soundLedger};
 ghost use Rattle.ledger.specs.Slots.{slotCount, slotOf, Fresh};
-ghost use Rattle.ledger.specs.Lookup.{NoneIn, FirstFrom, freeRow, rowByNumber, liveRow, filledRows};
+ghost use Rattle.ledger.specs.Lookup.{NoneIn, FirstFrom, isNamed, freeRow, rowByNumber, liveRow, filledRows};
 use text::Class;
 
 pub const ROW_SIZE: usize = 32;
@@ -55,7 +55,7 @@ const LARGEST_QUANTITY: u64 = 9_999_999_999_999_999_999;
 
 const NO_PARTNER: usize = 65535;
 
-// Neighbouring numbers fall into different ones of so many slots.
+// The slots of the test for doubles; neighbouring decimal numbers fall into different ones of so many.
 const SLOT_COUNT: usize = 499;
 
 // A byte as a size.
@@ -300,7 +300,7 @@ fn is_filled_with<'a>(w: &'a [u8], n: &'a [u8]) -> bool
 // that most rows are passed over, and none of these has the number.
 fn next_ending<'a>(c: &'a [u8], from: usize, n: &'a [u8]) -> usize
     requires { ⌜ (length (now c) ≡ compartmentSize) × (from ≤ rowCount) ⌝ }
-    ensures { λ r. ⌜ (from ≤ r) × (r ≤ rowCount) × NoneIn (λ j. same (number (rowsOf (now (c .entry)) j)) (now (n .entry))) from r ⌝ }
+    ensures { λ r. ⌜ (from ≤ r) × (r ≤ rowCount) × NoneIn (isNamed (rowsOf (now (c .entry))) (now (n .entry))) from r ⌝ }
 {
     let size = n.len();
     if size == 0 {

@@ -15,7 +15,7 @@ use lib.Seq.{drop-cons, drop-drop, take-suc, take-all, take-add}
 use Rattle.frame.specs.Every.{every}
 use Rattle.frame.specs.Parts.{part}
 use Rattle.frame.proofs.BoolLaws.{and-left, and-right, and-intro, and-false, and-true, and-assoc}
-use Rattle.text.specs.Class.{isDigit, isZero}
+use Rattle.text.specs.Class.{isDigit}
 use Rattle.text.specs.Bytes.{all, same, positionOf, countOf}
 
 abbrev pub isByte : ℕ → Bool

@@ -1,12 +1,12 @@
 -- Laws of big-endian numbers: what a loop that reads one knows; and the order of texts of one length is the order of their numbers.
 -- Assumes nothing.
-use Prim.Native.Nat.{ℕ, zero, suc, _+_, _*_, _^_, _≤_, _<_}
+use Prim.Native.Nat.{ℕ, suc, _+_, _*_, _^_, _≤_, _<_}
 use native.Mathlib.Nat.{pow-suc, mul-comm, mul-assoc}
 use native.Mathlib.Decide.{decLt}
 use native.Mathlib.Numerals.{add-one}
 use native.Mathlib.Omega.{arith}
 use mathlib.Core.Path.{_≡_, refl, ap, sym, _∙_}
-use mathlib.Core.Bool.{Bool, true, false, _&&_, cond}
+use mathlib.Core.Bool.{Bool, true, false, cond}
 use mathlib.Core.List.{List, [], _∷_, _++_}
 use borrow.Author.Tests.{lt-ltb, le-ltb, ltb-true}
 use lib.Arith.{digits-lt}
@@ -17,7 +17,7 @@ use Rattle.frame.proofs.BoolLaws.{and-left, and-right}
 use Rattle.text.specs.Bytes.{all}
 use Rattle.text.specs.Number.{bigEndian}
 use Rattle.text.specs.declared.Order.{Order}
-use Rattle.text.specs.declared.Order.the-variants.{Less, Same, Greater}
+use Rattle.text.specs.declared.Order.the-variants.{Less, Greater}
 use Rattle.text.specs.Order.{orderOf, isLess, below}
 use Rattle.text.proofs.ByteLaws.{isByte}
 

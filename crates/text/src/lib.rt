@@ -1,4 +1,4 @@
-// Bytes and slices of them: classes, comparison, search, parts, little-endian numbers.
+// Bytes and slices of them: classes, comparison, search, parts, numbers as bytes.
 ghost use mathlib.Core.Path.{_≡_};
 ghost use Prim.Native.Nat.{_≤_, _<_, _^_};
 ghost use lib.Dec.{eqb};
@@ -8,7 +8,7 @@ ghost use Rattle.text.specs.Bytes.{all as allOf, same, positionOf, count
 ghost use Rattle.text.specs.Order.{orderOf};
 ghost use Rattle.text.specs.Number.{littleEndian, bigEndian, lowBytes, numberAt, numberPut};
 
-// The bytes that are tested for zeros at once: a loop over so many that it is known how many is made of wide steps.
+// The bytes that are tested for zeros at once: a loop over a count that is known is compiled to wide steps.
 const ZERO_BLOCK: usize = 512;
 
 // A class of bytes.
@@ -200,14 +200,14 @@ pub fn big_endian(s: &[u8]) -> u64
     ensures { λ r. ⌜ r ≡ bigEndian (take 8 (now (s .entry))) ⌝ }
 {
     let w = front(s, 8);
-    let mut high: u64 = 0;
+    let mut number: u64 = 0;
     let mut i = 0;
     while i < w.len() {
         let b = w[i] as u64;
-        high = high * 256 + b;
+        number = number * 256 + b;
         i += 1;
     }
-    high
+    number
 }
 
 // Writes the lowest bytes of x into w, as many as it has room for.

@@ -253,6 +253,27 @@ pub fn every_byte(check: &mut Check) {
     }
 }
 
+/// Records of up to fifty letters with another byte at each of their places, before a record that
+/// is booked: the archive reads records in blocks, the twin byte by byte.
+pub fn every_place(check: &mut Check) {
+    check.section("files: another byte at every place of a record");
+    let desk = Desk {
+        world: World::worked(),
+        ledger: vec![0; LEDGER_SIZE],
+    };
+    let worked = &worked_records()[0];
+    for length in 0..=50 {
+        for at in 0..length {
+            for byte in *b"\r\n'&( \x00\xff" {
+                let mut record = vec![b'A'; length];
+                record[at] = byte;
+                let parts = Parts::new(b"MBONE", b"W1", &[record, worked.clone()]);
+                check.file(&desk.call(&parts.to_bytes(), 4 * ANSWER_SIZE));
+            }
+        }
+    }
+}
+
 /// Files with random edits in their parts.
 pub fn edited_files(check: &mut Check, rng: &mut Rng, count: usize) {
     check.section("files: parts edited, bytes flipped, cut off");

@@ -33,6 +33,7 @@ fn main() -> ExitCode {
     lists::demand_three(&mut check, &mut Rng::new(6), 1_500);
     files::valid_files(&mut check, &mut Rng::new(7), 2_000);
     files::every_byte(&mut check);
+    files::every_place(&mut check);
     files::edited_files(&mut check, &mut Rng::new(8), 30_000);
     files::random_files(&mut check, &mut Rng::new(9), 5_000);
     files::counts_and_lengths(&mut check, &mut Rng::new(10), 20);

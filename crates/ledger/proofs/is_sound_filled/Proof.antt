@@ -15,7 +15,8 @@ is-other-number-requires : tie.Need-is-other-number-requires
 is-other-number-requires c κs =
     let read = c .before in
     let start = read .before .before .before in
-    (start .pre .0, (start .pre .1 .0, (ap rowForm (sym (read .before .row .ensures .0)) ∙ sym (read .is-row-form .ensures) ∙ c .if1 .taken, start .pre .1 .1 .1)))
+    let form = ap rowForm (sym (read .before .row .ensures .0)) ∙ sym (read .is-row-form .ensures) ∙ c .if1 .taken in
+    (start .pre .0, (start .pre .1 .0, (form, start .pre .1 .1 .1)))
 
 is-linked-requires : tie.Need-is-linked-requires
 is-linked-requires c κs = search needs

@@ -1,17 +1,20 @@
 use borrow.Author.Needs.{needs}
 use Prim.Native.Nat.{ℕ, _≤_, _-_}
 use native.Mathlib.Omega.{arith}
+use mathlib.Core.Bool.{Bool}
 use mathlib.Core.List.{List}
 use mathlib.Core.Path.{_≡_, ap, sym, _∙_}
 use lib.Dec.{eqb}
 use lib.ListN.{length}
-use Rattle.text.specs.Bytes.{same}
-use Rattle.ledger.specs.Row.{live, state, number}
+use Rattle.ledger.specs.Row.{live, state}
 use Rattle.ledger.specs.Sound.{rowsOf, rowCount, compartmentSize}
-use Rattle.ledger.specs.Lookup.{NoneIn, isLive, liveRow}
+use Rattle.ledger.specs.Lookup.{NoneIn, isNamed, isLive, liveRow}
 use Rattle.ledger.proofs.LookupLaws.{none-both, none-on, row-of-none, row-found, row-missing}
 use Rattle.ledger.proofs.live_row.Statement.{statement}
 use Rattle.ledger.proofs.live_row.Tie as tie
+
+abbrev lives : List ℕ → ℕ → Bool
+lives c j = eqb (state (rowsOf c j)) live
 
 abbrev Inv-loop : tie.InvT-loop
 Inv-loop c n k₀ k = (k ≤ rowCount) × (length c ≡ compartmentSize) × NoneIn (isLive (rowsOf c) n) 0 k
@@ -32,7 +35,7 @@ loop-holds : tie.Need-loop-holds Inv-loop μ-loop
 loop-holds c =
     let args = c .before .before .before .before .args in
     let found = c .next-ending .ensures in
-    (found .1, c .before .if1 .left, none-both (λ j. eqb (state (rowsOf (args .c .now) j)) live) (λ j. same (number (rowsOf (args .c .now) j)) (args .n .now)) _ _ (found .2))
+    (found .1, c .before .if1 .left, none-both (lives (args .c .now)) (isNamed (rowsOf (args .c .now)) (args .n .now)) _ _ (found .2))
 
 row-requires : tie.Need-row-requires Inv-loop μ-loop
 row-requires c κs = search needs
@@ -71,7 +74,7 @@ loop-again c =
     let found = c .next-ending2 .ensures in (
       found .1,
       l .inv .1,
-      none-on (λ j. eqb (state (rowsOf (args .c .now) j)) live) (λ j. same (number (rowsOf (args .c .now) j)) (args .n .now)) (l .k) _ (l .inv .2)
+      none-on (lives (args .c .now)) (isNamed (rowsOf (args .c .now)) (args .n .now)) (l .k) _ (l .inv .2)
           (passes (c .before .before) ∙ c .before .if2 .left) (found .2),
     )
 

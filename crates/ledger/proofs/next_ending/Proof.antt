@@ -1,27 +1,20 @@
 use borrow.Author.Needs.{needs}
-use Prim.Native.Nat.{ℕ}
 use native.Mathlib.Omega.{arith}
-use mathlib.Core.Bool.{Bool}
-use mathlib.Core.List.{List}
-use Rattle.text.specs.Bytes.{same}
-use Rattle.ledger.specs.Row.{number}
 use Rattle.ledger.specs.Sound.{rowsOf}
+use Rattle.ledger.specs.Lookup.{isNamed}
 use Rattle.ledger.proofs.LookupLaws.{none-yet, none-ending}
 use Rattle.ledger.proofs.next_ending.Statement.{statement}
 use Rattle.ledger.proofs.next_ending.Tie as tie
 
-abbrev named : List ℕ → List ℕ → ℕ → Bool
-named c n j = same (number (rowsOf c j)) n
-
 returns : tie.Need-returns
 returns c =
     let args = c .before .before .before .args in
-    (search needs, search needs, none-yet (named (args .c .now) (args .n .now)) (args .from))
+    (search needs, search needs, none-yet (isNamed (rowsOf (args .c .now)) (args .n .now)) (args .from))
 
 returns-2 : tie.Need-returns-2
 returns-2 c =
     let args = c .before .before .before .before .args in
-    (search needs, search needs, none-yet (named (args .c .now) (args .n .now)) (args .from))
+    (search needs, search needs, none-yet (isNamed (rowsOf (args .c .now)) (args .n .now)) (args .from))
 
 add-next-with : tie.Need-add-next-with
 add-next-with c = search needs

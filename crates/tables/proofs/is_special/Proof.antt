@@ -5,7 +5,6 @@ use mathlib.Core.Path.{refl, sym, _∙_}
 use borrow.Author.Tests.{eq-eqb, ne-eqb}
 use Rattle.frame.proofs.BoolLaws.{and-false}
 use Rattle.tables.proofs.CodeLaws.{special-none, special-letters}
-use borrow.Author.Needs.{needs}
 use Rattle.tables.proofs.is_special.Statement.{statement}
 use Rattle.tables.proofs.is_special.Tie as tie
 
@@ -28,7 +27,10 @@ shared-slice-read-last : tie.Need-shared-slice-read-last
 shared-slice-read-last c = search needs
 
 returns-4 : tie.Need-returns-4
-returns-4 c = sym (special-letters _ (c .before .before .before .before .before .if1 .left) ∙ rw (eq-eqb _ _ (c .before .before .before .if2 .left), eq-eqb _ _ (c .before .if3 .left)) refl)
+returns-4 c =
+    let third = c .before in
+    let second = third .before .before in
+    sym (special-letters _ (second .before .before .if1 .left) ∙ rw (eq-eqb _ _ (second .if2 .left), eq-eqb _ _ (third .if3 .left)) refl)
 
 pub is-special-spec : {M : Type 1} → statement M
 is-special-spec =

@@ -11,10 +11,10 @@ use Rattle.text.proofs.big_endian.Statement.{statement}
 use Rattle.text.proofs.big_endian.Tie as tie
 
 abbrev Inv-loop : tie.InvT-loop
-Inv-loop s w high₀ i₀ high i = (i ≤ length w) × (length w ≤ 8) × (high ≡ bigEndian (take i w)) × (high < 256 ^ i)
+Inv-loop s w number₀ i₀ number i = (i ≤ length w) × (length w ≤ 8) × (number ≡ bigEndian (take i w)) × (number < 256 ^ i)
 
 abbrev μ-loop : tie.MeasureT-loop
-μ-loop s w high₀ i₀ high i = length w - i
+μ-loop s w number₀ i₀ number i = length w - i
 
 loop-holds : tie.Need-loop-holds Inv-loop μ-loop
 loop-holds c =
@@ -30,19 +30,19 @@ cast-b c = omega (arith, c .shared-slice-known2 .given (c .before .before .loop 
 -- with the next byte the number is below the next power, which a word holds
 more : (c : tie.After-shared-slice-known2 Inv-loop μ-loop)
     → let l = c .before .before .loop in
-    l .high * 256 + getD (c .before .before .before .front .result .now) (l .i) 0 < 256 ^ (l .i + 1)
-more c = let l = c .before .before .loop in digit-more 256 (l .high) _ _ (l .inv .3) (omega (arith, c .shared-slice-known2 .given (l .i)))
+    l .number * 256 + getD (c .before .before .before .front .result .now) (l .i) 0 < 256 ^ (l .i + 1)
+more c = let l = c .before .before .loop in digit-more 256 (l .number) _ _ (l .inv .3) (omega (arith, c .shared-slice-known2 .given (l .i)))
 
 fits : (c : tie.After-shared-slice-known2 Inv-loop μ-loop)
     → let l = c .before .before .loop in
-    l .high * 256 + getD (c .before .before .before .front .result .now) (l .i) 0 < 2 ^ 64
+    l .number * 256 + getD (c .before .before .before .front .result .now) (l .i) 0 < 2 ^ 64
 fits c = below-power 255 {n = 8} (more c) (omega arith)
 
-mul-high : tie.Need-mul-high Inv-loop μ-loop
-mul-high c = omega (arith, fits c)
+mul-number : tie.Need-mul-number Inv-loop μ-loop
+mul-number c = omega (arith, fits c)
 
-add-high : tie.Need-add-high Inv-loop μ-loop
-add-high c = record { fits = fits c }
+add-number : tie.Need-add-number Inv-loop μ-loop
+add-number c = record { fits = fits c }
 
 add-i : tie.Need-add-i Inv-loop μ-loop
 add-i c = search needs
@@ -68,8 +68,8 @@ big-endian-spec =
     loop-holds
     shared-slice-read-b
     cast-b
-    mul-high
-    add-high
+    mul-number
+    add-number
     add-i
     loop-less
     loop-again
