@@ -11,9 +11,6 @@ use lib.ListN.{length}
 use Rattle.frame.specs.Isolation as I
 use Rattle.frame.specs.Isolation.{Outcome, Reply, refused, answer, single}
 use Rattle.frame.proofs.Isolation.{single-refused, single-stranger, single-step}
-use Rattle.fields.specs.declared.Place.{Place}
-use Rattle.fields.specs.Fields.{stopsOf, placeIn}
-use Rattle.fields.proofs.FieldLaws.{placed}
 use Rattle.ledger.specs.Sound.{bankCount, soundLedger}
 use Rattle.answer.specs.declared.Answer.{Answer}
 use Rattle.answer.specs.Answer.{answerSize, answerBytes, answerPut}
@@ -25,7 +22,7 @@ use Rattle.calls.specs.Rules.{rules}
 use Rattle.calls.specs.Reply.{outcome}
 use Rattle.calls.specs.Filing.{FileOutcome, fileOutcome, fileOf}
 use Rattle.calls.proofs.CallLaws.{refusal-is}
-use Rattle.capi.specs.Exported.{exported, shortNumber, recordReply, recordExport, filedNumber, fileExport, fieldExport}
+use Rattle.capi.specs.Exported.{exported, shortNumber, recordReply, recordExport, filedNumber, fileExport}
 
 -- a call whose buffer is too short: its own refusal, else 12
 pub short-refused : {n m r : ℕ} → n ≡ r → (n ≡ 0 → ⊥) → m ≡ n → m ≡ shortNumber r
@@ -104,7 +101,3 @@ module _ (reporters currencies file l a : List ℕ) {r : Filed} (m b : List ℕ)
   unfolding fileExport
   file-exported e =
       ap (λ (x : ℕ). exported x m b) e ∙ ap (λ (x : FileOutcome). exported (filedNumber (x .filed)) (x .ledger) (x .buffer)) o
-
--- a field's place, by the index of its record
-pub field-exported : (s stops : List ℕ) (n : ℕ) {p : Place} → stops ≡ stopsOf s → p ≡ placeIn (length s) stops n → p ≡ fieldExport s n
-field-exported s stops n e q = q ∙ ap (λ (w : List ℕ). placeIn (length s) w n) e ∙ placed s n

@@ -83,8 +83,7 @@ pub extern "C" fn roselhanda_file<'a>(
 pub extern "C" fn roselhanda_field(s: &[u8], n: u64, length: &mut u64) -> u64
     ensures { λ r. ⌜ fieldNumbers r (now (length .exit)) ≡ fieldExport (now (s .entry)) n ⌝ }
 {
-    let stops = fields::index(s);
-    let p = fields::place_of(s.len(), &stops, n as usize);
+    let p = fields::field_place(s, n as usize);
     *length = p.length as u64;
     p.start as u64
 }

@@ -3,39 +3,61 @@
 use Prim.Native.Nat.{ℕ, zero, suc, _+_, _-_, _<_, _≤_, zero-le}
 use Prim.Native.Char.{code}
 use mathlib.Core.Bool.{Bool, true, false, cond}
-use mathlib.Core.List.{List, [], _∷_, _++_, append-nil}
+use mathlib.Core.List.{List, [], _∷_, _++_, append-nil, append-assoc}
 use mathlib.Core.Path.{_≡_, refl, ap, sym, _∙_}
-use native.Mathlib.Nat.{not-suc-le-zero, le-of-suc-le-suc, le-of-lt, sub-zero, add-comm}
+use native.Mathlib.Nat.{not-suc-le-zero, le-of-suc-le-suc, le-of-lt, sub-zero, add-comm, add-zero, add-suc, suc-add}
 use native.Mathlib.Numerals.{add-one}
 use native.Mathlib.Decide.{decLt, ℕ-discrete}
 use native.Mathlib.Omega.{arith}
 use borrow.Author.Tests.{eq-eqb, ne-eqb, le-leb, lt-leb, lt-ltb, le-ltb, eqb-true}
 use denote.Ref.{RefT, now, ptr}
 use lib.Dec.{eqb}
-use lib.ListN.{length, getD, take, drop, set, replicate, length-append, length-set, drop-of-length-le, List·getD-append, getD-replicate}
-use lib.Seq.{drop-cons, take-suc-set, append-snoc, length-take-le, take-all}
+use lib.ListN.{length, getD, take, drop, set, replicate, length-append, length-set, length-drop, drop-of-length-le, take-append-drop}
+use lib.ListN.{List·getD-append, getD-replicate}
+use lib.Seq.{drop-cons, drop-drop, take-suc-set, append-snoc, length-take-le, take-all}
 use Rattle.frame.proofs.BoolLaws.{and-false}
 use Rattle.text.specs.Bytes.{countOf}
 use Rattle.fields.specs.declared.Place.{Place}
 use Rattle.fields.specs.Fields.{semicolonsFrom, semicolons, isWhole, fieldStart, fieldEnd, emptyPlace, fieldPlace, fieldOf, Lies}
-use Rattle.fields.specs.Fields.{stopsOf, isWholeIndex, isPlaced, placeIn, fieldBy}
+use Rattle.fields.specs.Fields.{Extended, stopsOf, isWholeIndex, isPlaced, placeIn, fieldBy}
 
--- the laws that the loop of the index uses. Found so far: the first stops; what is still to be found stands in the rest, from i
-module _ (s stops : List ℕ) (found i : ℕ) (e : semicolons s ≡ take found stops ++ semicolonsFrom i (drop i s)) where
-  pub semicolons-hit : i < length s → getD s i 0 ≡ code ";" → found < length stops
-      → semicolons s ≡ take (found + 1) (set stops found i) ++ semicolonsFrom (i + 1) (drop (i + 1) s)
+-- the laws of a loop that puts the places of semicolons behind those counted: what is still to be found stands in the rest of the part, from i
+module _ (known w stops : List ℕ) (count at i : ℕ) (e : known ≡ take count stops ++ semicolonsFrom (at + i) (drop i w)) where
+  pub semicolons-hit : i < length w → getD w i 0 ≡ code ";" → count < length stops
+      → known ≡ take (count + 1) (set stops count (at + i)) ++ semicolonsFrom (at + (i + 1)) (drop (i + 1) w)
   unfolding semicolonsFrom
   semicolons-hit h t f =
-      let q : semicolonsFrom i (drop i s) ≡ i ∷ semicolonsFrom (i + 1) (drop (i + 1) s) = rw (add-one, drop-cons s i 0, eq-eqb _ _ t) refl in
-      e ∙ rw (q, add-one found, take-suc-set stops found i) (sym (append-snoc (take found stops) i _))
+      let q : semicolonsFrom (at + i) (drop i w) ≡ (at + i) ∷ semicolonsFrom (at + (i + 1)) (drop (i + 1) w)
+      = rw (add-one i, add-suc at i, drop-cons w i 0, eq-eqb _ _ t) refl in
+      e ∙ rw (q, add-one count, take-suc-set stops count (at + i)) (sym (append-snoc (take count stops) (at + i) _))
 
-  pub semicolons-miss : i < length s → (getD s i 0 ≡ code ";" → ⊥) → semicolons s ≡ take found stops ++ semicolonsFrom (i + 1) (drop (i + 1) s)
+  pub semicolons-miss : i < length w → (getD w i 0 ≡ code ";" → ⊥) → known ≡ take count stops ++ semicolonsFrom (at + (i + 1)) (drop (i + 1) w)
   unfolding semicolonsFrom
-  semicolons-miss h n = e ∙ rw (add-one, drop-cons s i 0, ne-eqb _ _ n) refl
+  semicolons-miss h n = e ∙ rw (add-one i, add-suc at i, drop-cons w i 0, ne-eqb _ _ n) refl
 
-  pub semicolons-end : length s ≤ i → semicolons s ≡ take found stops
+  pub semicolons-over : i < length w → getD w i 0 ≡ code ";" → count ≤ length stops → count < length known
   unfolding semicolonsFrom
-  semicolons-end h = e ∙ rw (drop-of-length-le s h) (append-nil _)
+  semicolons-over h t f =
+      let rest : List ℕ = semicolonsFrom (suc (at + i)) (drop (suc i) w) in
+      let q : semicolonsFrom (at + i) (drop i w) ≡ (at + i) ∷ rest = rw (drop-cons w i 0, eq-eqb _ _ t) refl in
+      let l : length known ≡ count + suc (length rest) = ap length e ∙ rw (q, length-append, length-take-le count stops f) refl in
+      omega arith
+
+  pub semicolons-end : length w ≤ i → known ≡ take count stops
+  unfolding semicolonsFrom
+  semicolons-end h = e ∙ rw (drop-of-length-le w h) (append-nil _)
+
+-- the semicolons of two parts
+semicolons-append : (at : ℕ) (s t : List ℕ) → semicolonsFrom at (s ++ t) ≡ semicolonsFrom at s ++ semicolonsFrom (at + length s) t
+unfolding semicolonsFrom
+semicolons-append at [] t = rw add-zero refl
+semicolons-append at (x ∷ s) t = go (eqb x (code ";")) (semicolons-append (suc at) s t)
+  where
+    go : (b : Bool) → semicolonsFrom (suc at) (s ++ t) ≡ semicolonsFrom (suc at) s ++ semicolonsFrom (suc at + length s) t
+        → cond b (at ∷ semicolonsFrom (suc at) (s ++ t)) (semicolonsFrom (suc at) (s ++ t))
+        ≡ cond b (at ∷ semicolonsFrom (suc at) s) (semicolonsFrom (suc at) s) ++ semicolonsFrom (at + suc (length s)) t
+    go true e = ap (λ (l : List ℕ). at ∷ l) (e ∙ rw (add-suc at (length s), suc-add at (length s)) refl)
+    go false e = e ∙ rw (add-suc at (length s), suc-add at (length s)) refl
 
 -- a record is whole by the number of its semicolons
 semicolons-count : (at : ℕ) (s : List ℕ) → length (semicolonsFrom at s) ≡ countOf (code ";") s
@@ -53,41 +75,63 @@ unfolding isWhole
 whole-count s = rw semicolons-count
 
 -- the index of a record that isn't whole, and of one that is
-stops-broken : (s : List ℕ) → isWhole s ≡ false → stopsOf s ≡ replicate 39 0
+pub stops-broken : (s : List ℕ) → isWhole s ≡ false → stopsOf s ≡ replicate 39 0
 unfolding stopsOf
 stops-broken s w = rw w refl
 
-stops-none : (s : List ℕ) → (length (semicolons s) ≡ 38 → ⊥) → replicate 39 0 ≡ stopsOf s
+not-whole : (s : List ℕ) → (length (semicolons s) ≡ 38 → ⊥) → false ≡ isWhole s
 unfolding isWhole
-stops-none s n = sym (stops-broken s (ne-eqb _ 38 n))
+not-whole s n = sym (ne-eqb _ 38 n)
 
 stops-whole : (s : List ℕ) → isWhole s ≡ true → stopsOf s ≡ semicolons s ++ (length s ∷ [])
 unfolding stopsOf
 stops-whole s w = rw w refl
 
--- what the index is where its loop ends: at a semicolon too many, behind too few, and behind 38 of them
-module _ (s stops : List ℕ) (found i : ℕ) (e : semicolons s ≡ take found stops ++ semicolonsFrom i (drop i s)) (sized : length stops ≡ 39) where
-  pub index-over : i < length s → getD s i 0 ≡ code ";" → found ≡ 38 → replicate 39 0 ≡ stopsOf s
+-- the laws of the index, which is extended by the block from p to q: behind it, and what the index is where that was too many or the last one
+module _ (s stops later : List ℕ) (found r p q : ℕ) (e : semicolons s ≡ take found stops ++ semicolonsFrom p (drop p s)) (h : p ≤ q) (k : q ≤ length s)
+    (x : Extended stops found (semicolonsFrom p (take (q - p) (drop p s))) later r) where
+  block-and-rest : semicolons s ≡ take found stops ++ semicolonsFrom p (take (q - p) (drop p s)) ++ semicolonsFrom q (drop q s)
+  block-and-rest =
+      let next : p + (q - p) ≡ q = omega arith in
+      let inside : length (take (q - p) (drop p s)) ≡ q - p = length-take-le (q - p) (drop p s) (rw length-drop (omega arith)) in
+      let parts : semicolonsFrom p (drop p s) ≡ semicolonsFrom p (take (q - p) (drop p s)) ++ semicolonsFrom q (drop q s)
+      = ap (semicolonsFrom p) (sym (take-append-drop (q - p) (drop p s))) ∙ semicolons-append p (take (q - p) (drop p s)) (drop (q - p) (drop p s))
+      ∙ rw (inside, drop-drop, next) refl in
+      e ∙ ap (λ (l : List ℕ). take found stops ++ l) parts ∙ sym (append-assoc (take found stops) _ _)
+
+  pub index-go : r ≤ 38 → semicolons s ≡ take r later ++ semicolonsFrom q (drop q s)
+  index-go f = block-and-rest ∙ rw (x .within f) refl
+
+  pub index-over : found ≤ length stops → 38 < r → false ≡ isWhole s
+  index-over f g =
+      let more : List ℕ = semicolonsFrom p (take (q - p) (drop p s)) in
+      let l : length (semicolons s) ≡ found + length more + length (semicolonsFrom q (drop q s))
+      = ap length block-and-rest ∙ rw (length-append, length-append, length-take-le found stops f) refl in
+      not-whole s (λ n. omega (arith, n, x .over g, l))
+
+  index-all : q ≡ length s → r ≤ 38 → semicolons s ≡ take r later
   unfolding semicolonsFrom
-  index-over h t f =
-      let rest : List ℕ = semicolonsFrom (suc i) (drop (suc i) s) in
-      let q : semicolonsFrom i (drop i s) ≡ i ∷ rest = rw (drop-cons s i 0, eq-eqb _ _ t) refl in
-      let l : length (semicolons s) ≡ found + suc (length rest) = ap length e ∙ rw (q, length-append, length-take-le found stops (omega arith)) refl in
-      stops-none s (λ k. omega arith)
+  index-all z f = let end : length s ≤ q = omega arith in index-go f ∙ rw (drop-of-length-le s end) (append-nil _)
 
-  pub index-under : length s ≤ i → found < 38 → replicate 39 0 ≡ stopsOf s
-  index-under h f =
-      let l : length (semicolons s) ≡ found = ap length (semicolons-end s stops found i e h) ∙ length-take-le found stops (omega arith) in
-      stops-none s (λ k. omega arith)
+  pub index-other : found ≤ length stops → q ≡ length s → (r ≡ 38 → ⊥) → false ≡ isWhole s
+  index-other f z n = go (decLt 38 r)
+    where
+      go : Dec (38 < r) → false ≡ isWhole s
+      go (yes g) = index-over f g
+      go (no g) =
+          let l : length (semicolons s) ≡ r = ap length (index-all z (omega arith)) ∙ length-take-le r later (omega (arith, g, x .sized)) in
+          not-whole s (λ m. n (sym l ∙ m))
 
-  pub index-full : length s ≤ i → found ≤ 38 → 38 ≤ found → set stops 38 (length s) ≡ stopsOf s
+  pub index-full : q ≡ length s → r ≡ 38 → (true ≡ isWhole s) × (set later 38 (length s) ≡ stopsOf s)
   unfolding isWhole
-  index-full h f g =
-      let n : found ≡ 38 = omega arith in
-      let q : semicolons s ≡ take 38 stops = semicolons-end s stops found i e h ∙ ap (λ (k : ℕ). take k stops) n in
-      let w : length (semicolons s) ≡ 38 = ap length q ∙ length-take-le 38 stops (omega arith) in
-      sym (stops-whole s (eq-eqb _ 38 w) ∙ rw q (sym (take-suc-set stops 38 (length s) (omega arith)))
-      ∙ take-all 39 (set stops 38 (length s)) (simp length-set (omega arith)))
+  index-full z n =
+      let sized : length later ≡ 39 = x .sized in
+      let o : semicolons s ≡ take 38 later = index-all z (omega arith) ∙ ap (λ (j : ℕ). take j later) n in
+      let w : isWhole s ≡ true = eq-eqb _ 38 (ap length o ∙ length-take-le 38 later (omega arith)) in (
+        sym w,
+        sym (stops-whole s w ∙ rw o (sym (take-suc-set later 38 (length s) (omega arith)))
+            ∙ take-all 39 (set later 38 (length s)) (simp length-set (omega arith))),
+      )
 
 -- a record has no more semicolons than bytes
 semicolons-most : (at : ℕ) (s : List ℕ) → length (semicolonsFrom at s) ≤ length s
@@ -101,7 +145,7 @@ semicolons-most at (x ∷ xs) = go (eqb x (code ";")) (semicolons-most (suc at) 
     go false h = omega arith
 
 pub index-short : (s : List ℕ) → length s < 38 → replicate 39 0 ≡ stopsOf s
-index-short s h = stops-none s (λ k. omega (arith, k, semicolons-most 0 s))
+index-short s h = sym (stops-broken s (sym (not-whole s (λ k. omega (arith, k, semicolons-most 0 s)))))
 
 -- where a field lies by an index, as the tests of its number and of its end come out
 module _ (size : ℕ) (stops : List ℕ) (n : ℕ) where
@@ -218,7 +262,7 @@ whole-index s = go (isWhole s) refl
 
 -- where the field view says that a field lies
 module _ (s : List ℕ) (n : ℕ) where
-  field-broken : isWhole s ≡ false → fieldPlace s n ≡ emptyPlace
+  pub field-broken : isWhole s ≡ false → fieldPlace s n ≡ emptyPlace
   unfolding fieldPlace
   field-broken w = rw w refl
 

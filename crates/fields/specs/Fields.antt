@@ -1,6 +1,6 @@
 -- The field view of document 01: the parts of a record between its semicolons; and an index of all of them.
 -- Assumes nothing.
-use Prim.Native.Nat.{ℕ, suc, _+_, _-_}
+use Prim.Native.Nat.{ℕ, suc, _+_, _-_, _≤_, _<_}
 use Prim.Native.Char.{code}
 use mathlib.Core.Bool.{Bool, true, false, _&&_, _||_, cond}
 use mathlib.Core.List.{List, [], _∷_, _++_}
@@ -51,6 +51,12 @@ fieldOf s n = bytesAt s (fieldPlace s n)
 -- The index of a record: where each of its fields ends, in order; all 0 for a record without 38 semicolons.
 unfoldable pub stopsOf : List ℕ → List ℕ
 stopsOf s = cond (isWhole s) (semicolons s ++ (length s ∷ [])) (replicate 39 0)
+
+-- the first places of an index, further ones put behind them, are the first r of a later one; r is above 38 where they are more than 38
+pub record Extended (stops : List ℕ) (found : ℕ) (more later : List ℕ) (r : ℕ) : Type 0 where
+  pub sized : length later ≡ 39
+  pub within : r ≤ 38 → take found stops ++ more ≡ take r later
+  pub over : 38 < r → 38 < found + length more
 
 -- whether an index is that of a record with 38 semicolons
 abbrev pub isWholeIndex : List ℕ → Bool

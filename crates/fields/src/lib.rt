@@ -1,8 +1,13 @@
 // The fields of a record, as parts of the caller's slice.
+ghost use mathlib.Core.Bool.{true};
 ghost use mathlib.Core.Path.{_≡_};
+ghost use Prim.Native.Nat.{_+_, _^_, _≤_, _<_};
 ghost use lib.ListN.{length, getD};
 ghost use Rattle.fields.specs.Forms.{letter};
-ghost use Rattle.fields.specs.Fields.{stopsOf, isWholeIndex, emptyPlace, placeIn, fieldPlace, Lies};
+ghost use Rattle.fields.specs.Fields.{semicolonsFrom, isWhole, Extended, stopsOf, isWholeIndex, emptyPlace, placeIn, fieldPlace, Lies};
+
+// The bytes of a record that are searched for semicolons at once.
+const BLOCK_SIZE: usize = 16;
 
 // Where a part lies in a record.
 pub struct Place {
@@ -10,30 +15,50 @@ pub struct Place {
     pub length: usize,
 }
 
-// The index of a record, made in one pass.
-fn index_all(s: &[u8]) -> [usize; 39]
-    ensures { λ r. ⌜ r ≡ stopsOf (now (s .entry)) ⌝ }
+// Puts the places of the semicolons of w, a part of a record that lies at a place, behind the places found; 39 where they are too many.
+fn extend(stops: &mut [usize; 39], found: usize, w: &[u8], at: usize) -> usize
+    requires { ⌜ (length (now stops) ≡ 39) × (found ≤ 38) × (at + length (now w) < 2 ^ 64) ⌝ }
+    ensures { λ r. ⌜ Extended (now (stops .entry)) found (semicolonsFrom at (now (w .entry))) (now (stops .exit)) r ⌝ }
 {
-    let mut stops = [0usize; 39];
-    let mut found: usize = 0;
+    let mut count = found;
     let mut i = 0;
-    while i < s.len() {
-        if s[i] == b';' {
-            if found == 38 {
-                return [0usize; 39];
+    while i < w.len() {
+        if w[i] == b';' {
+            if count == 38 {
+                return 39;
             }
-            stops[found] = i;
-            found += 1;
+            stops[count] = at + i;
+            count += 1;
             i += 1;
         } else {
             i += 1;
         }
     }
-    if found < 38 {
-        return [0usize; 39];
+    count
+}
+
+// Makes the index of a record with 38 semicolons, in one pass, and says whether it has so many. It goes block by block: a loop over a count that is
+// known is compiled to straight steps.
+fn fill(stops: &mut [usize; 39], s: &[u8]) -> bool
+    requires { ⌜ length (now stops) ≡ 39 ⌝ }
+    ensures { λ r. ⌜ (r ≡ isWhole (now (s .entry))) × (r ≡ true → now (stops .exit) ≡ stopsOf (now (s .entry))) ⌝ }
+{
+    let mut found: usize = 0;
+    let mut p = 0;
+    while BLOCK_SIZE <= s.len() - p {
+        let next = p + BLOCK_SIZE;
+        found = extend(stops, found, &s[p..next], p);
+        if 38 < found {
+            return false;
+        }
+        p = next;
+    }
+    found = extend(stops, found, &s[p..], p);
+    if found != 38 {
+        return false;
     }
     stops[38] = s.len();
-    stops
+    true
 }
 
 // The index of a record: where each of its fields ends; all 0 for a record without 38 semicolons, as each of fewer bytes is.
@@ -43,7 +68,11 @@ pub fn index(s: &[u8]) -> [usize; 39]
     if s.len() < 38 {
         return [0usize; 39];
     }
-    index_all(s)
+    let mut stops = [0usize; 39];
+    if fill(&mut stops, s) {
+        return stops;
+    }
+    [0usize; 39]
 }
 
 // Whether the index is that of a record with 38 semicolons.
@@ -92,6 +121,17 @@ pub fn place_of(size: usize, stops: &[usize; 39], n: usize) -> Place
     } else {
         empty_place()
     }
+}
+
+// Where field n of a record lies; the empty part at its start for another number, or where it hasn't 38 semicolons.
+pub fn field_place(s: &[u8], n: usize) -> Place
+    ensures { λ r. ⌜ r ≡ fieldPlace (now (s .entry)) n ⌝ }
+{
+    let mut stops = [0usize; 39];
+    if fill(&mut stops, s) {
+        return place_of(s.len(), &stops, n);
+    }
+    empty_place()
 }
 
 // Field n by an index: that part of the record.
