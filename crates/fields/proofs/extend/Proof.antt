@@ -58,8 +58,13 @@ loop-less c = search needs
 
 loop-again : tie.Need-loop-again Inv-loop μ-loop
 loop-again c =
-    let c-loop = c .before .before .before .before .loop in
-    (search needs, search needs, search needs, semicolons-hit _ _ (c-loop .stops) (c-loop .count) _ _ (c-loop .inv .3) (c .before .before .before .loop-test .taken) (c .before .if1 .taken) (omega arith))
+    let turn = c .before .before .before in
+    let l = turn .before .loop in (
+      search needs,
+      search needs,
+      search needs,
+      semicolons-hit _ _ (l .stops) (l .count) _ _ (l .inv .3) (turn .loop-test .taken) (c .before .if1 .taken) (omega arith),
+    )
 
 add-i-2 : tie.Need-add-i-2 Inv-loop μ-loop
 add-i-2 c = search needs
@@ -69,8 +74,9 @@ loop-less-2 c = search needs
 
 loop-again-2 : tie.Need-loop-again-2 Inv-loop μ-loop
 loop-again-2 c =
-    let c-loop = c .before .before .before .loop in
-    (search needs, c-loop .inv .1, c-loop .inv .2, semicolons-miss _ _ (c-loop .stops) (c-loop .count) _ _ (c-loop .inv .3) (c .before .before .loop-test .taken) (c .if1 .left))
+    let turn = c .before .before in
+    let l = turn .before .loop in
+    (search needs, l .inv .1, l .inv .2, semicolons-miss _ _ (l .stops) (l .count) _ _ (l .inv .3) (turn .loop-test .taken) (c .if1 .left))
 
 returns-2 : tie.Need-returns-2 Inv-loop μ-loop
 returns-2 c =

@@ -15,13 +15,13 @@ fill-requires c κs = search needs
 
 returns : tie.Need-returns
 returns c =
-    let c-args = c .before .before .before .before .before .before .args in
-    let s = c-args .s .now in
-    let n = c-args .n in
-    (c .place-of .ensures) ∙ ap (λ (stops : List ℕ). placeIn (length s) stops n) (c .before .before .before .fill .ensures .1 (c .before .before .if1 .taken)) ∙ placed s n
+    let filled = c .before .before .before in
+    let args = filled .before .before .before .args in
+    let stops = filled .fill .ensures .1 (c .before .before .if1 .taken) in
+    c .place-of .ensures ∙ ap (λ (l : List ℕ). placeIn (length (args .s .now)) l (args .n)) stops ∙ placed (args .s .now) (args .n)
 
 returns-2 : tie.Need-returns-2
-returns-2 c = c .empty-place .ensures ∙ sym (field-broken _ _ (sym (c .before .before .fill .ensures .0) ∙ (c .before .if1 .left)))
+returns-2 c = c .empty-place .ensures ∙ sym (field-broken _ _ (sym (c .before .before .fill .ensures .0) ∙ c .before .if1 .left))
 
 pub field-place-spec : {M : Type 1} → statement M
 field-place-spec = tie.close (tie.spec fill-requires (λ c κs. tt) returns (λ c κs. tt) returns-2)

@@ -17,7 +17,7 @@ returns-2 : tie.Need-returns-2
 returns-2 c = c .before .fill .ensures .1 (c .if2 .taken)
 
 returns-3 : tie.Need-returns-3
-returns-3 c = sym (stops-broken _ (sym (c .before .fill .ensures .0) ∙ (c .if2 .left)))
+returns-3 c = sym (stops-broken _ (sym (c .before .fill .ensures .0) ∙ c .if2 .left))
 
 pub index-spec : {M : Type 1} → statement M
 index-spec = tie.close (tie.spec returns fill-requires returns-2 returns-3)
