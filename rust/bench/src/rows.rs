@@ -19,6 +19,8 @@ pub enum Call {
     ShortFile(usize),
     /// Records of as many bytes as valid ones, all of them spaces, in a file.
     SpacedFile(usize),
+    /// Records that pass the sender check and are blank behind it, in a file.
+    BlankFile(usize),
     /// One valid record.
     Single,
     /// Valid records in a file, and no room for an answer: refused by 12 once the file is opened.
@@ -43,6 +45,8 @@ pub enum Numbers {
     OneSlot,
     /// One length, one beginning and one last byte: each is a candidate in the search for another.
     OneEnd,
+    /// All bytes but the first two: each is a candidate, and is compared nearly to its start.
+    OneTail,
 }
 
 /// One row of the benchmark.
@@ -90,7 +94,7 @@ pub const USUAL: [Row; 18] = [
 ];
 
 /// What the proved code's short cuts are worst at.
-pub const WORST: [Row; 3] = [
+pub const WORST: [Row; 5] = [
     worst("one-slot-full", Call::Single, Fill::Full, Numbers::OneSlot),
     worst(
         "one-end-250-half",
@@ -98,7 +102,14 @@ pub const WORST: [Row; 3] = [
         Fill::Half,
         Numbers::OneEnd,
     ),
+    worst(
+        "one-tail-250-half",
+        Call::File(250),
+        Fill::Half,
+        Numbers::OneTail,
+    ),
     row("spaces-250-empty", Call::SpacedFile(250), Fill::Empty),
+    row("blank-250-empty", Call::BlankFile(250), Fill::Empty),
 ];
 
 /// The rows of both tables.
@@ -132,11 +143,13 @@ impl Row {
             Call::File(count) => (valid(count), count, count as u64),
             Call::ShortFile(count) => (file((0..count).map(short_record)), count, count as u64),
             Call::SpacedFile(count) => (file((0..count).map(spaced_record)), count, count as u64),
+            Call::BlankFile(count) => (file((0..count).map(blank_record)), count, count as u64),
             Call::Opened(count) => (valid(count), 0, FILE_REFUSED + 12),
             Call::Unopened(count) => (without_head(valid(count)), 0, FILE_REFUSED + 5),
         };
         let booked = match (self.call, self.fill) {
-            (Call::ShortFile(_) | Call::SpacedFile(_), _) | (_, Fill::Full) => 0,
+            (Call::ShortFile(_) | Call::SpacedFile(_) | Call::BlankFile(_), _)
+            | (_, Fill::Full) => 0,
             _ => room,
         };
         Inputs {
@@ -167,6 +180,7 @@ impl Numbers {
             Numbers::Usual => format!("OLD{at:05}"),
             Numbers::OneSlot => format!("OLD{at:05}").repeat(2),
             Numbers::OneEnd => format!("TRADEOLD{at:07}X"),
+            Numbers::OneTail => with_one_tail(at),
         }
     }
 
@@ -176,6 +190,7 @@ impl Numbers {
             Numbers::Usual => format!("NEW{at}"),
             Numbers::OneSlot => format!("NEW{at:05}").repeat(2),
             Numbers::OneEnd => format!("TRADENEW{at:07}X"),
+            Numbers::OneTail => with_one_tail(BANKS * ROWS + at),
         }
     }
 }
@@ -221,6 +236,18 @@ fn short_record(at: usize) -> String {
 /// As long as a valid record.
 fn spaced_record(at: usize) -> String {
     " ".repeat(valid_record(at, &Numbers::Usual.new(at)).len())
+}
+
+/// Blank but for its kind and its bank.
+fn blank_record(at: usize) -> String {
+    format!("B;98{:03}{}", at % BANKS, ";".repeat(37))
+}
+
+/// A number of sixteen bytes that begins as no other does, and ends as each does.
+fn with_one_tail(at: usize) -> String {
+    let letters = b"0123456789ABCDEFGHIJKLMNOPQRSTUVWXYZ";
+    let letter = |k: usize| char::from(letters[k % letters.len()]);
+    format!("{}{}{}", letter(at / 36), letter(at), "A".repeat(14))
 }
 
 fn file(records: impl Iterator<Item = String>) -> Vec<u8> {

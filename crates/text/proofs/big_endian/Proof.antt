@@ -42,7 +42,7 @@ mul-number : tie.Need-mul-number Inv-loop μ-loop
 mul-number c = omega (arith, fits c)
 
 add-number : tie.Need-add-number Inv-loop μ-loop
-add-number c = record { fits = fits c }
+add-number c = record { fits = omega (arith, fits c) }
 
 add-i : tie.Need-add-i Inv-loop μ-loop
 add-i c = search needs

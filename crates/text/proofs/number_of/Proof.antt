@@ -46,7 +46,7 @@ mul-value : tie.Need-mul-value Inv-loop μ-loop
 mul-value c = omega (arith, fits c)
 
 add-value : tie.Need-add-value Inv-loop μ-loop
-add-value c = record { fits = fits c }
+add-value c = record { fits = omega (arith, fits c) }
 
 loop-less : tie.Need-loop-less Inv-loop μ-loop
 loop-less c = search needs
