@@ -4,7 +4,7 @@ ghost use lib.ListN.{length};
 ghost use Rattle.answer.specs.Answer.{answerSize, answerBytes, answerPut, zeroAnswer, answerAt};
 
 // The bytes of an answer record.
-const ANSWER_SIZE: usize = 16;
+pub const ANSWER_SIZE: usize = 16;
 
 // What a call answers to a record.
 pub struct Answer {

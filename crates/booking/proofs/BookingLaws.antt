@@ -17,7 +17,7 @@ use Rattle.frame.proofs.PartLaws.{part-put, part-put-other, put-length}
 use Rattle.text.specs.Bytes.{same}
 use Rattle.text.proofs.ByteLaws.{same-refl, same-sym}
 use Rattle.identifier.specs.Identifier.{nameUpTo}
-use Rattle.ledger.specs.Row.{rowSize, free, live, cancelled, cancellation, numberRoom, largestQuantity, state, filled, number, isSide, rowForm}
+use Rattle.ledger.specs.Row.{rowSize, free, live, cancelled, cancellation, numberRoom, largestQuantity, state, filledRow, number, isSide, rowForm}
 use Rattle.ledger.specs.Sound.{rowCount, compartmentSize, rowsOf, soundCompartment}
 use Rattle.ledger.specs.Lookup.{hasNumber, isLive, freeRow, rowByNumber, liveRow}
 use Rattle.ledger.proofs.RowLaws.{name-short}
@@ -213,14 +213,14 @@ module _ (f : ℕ) (n : List ℕ) (q s p : ℕ) (c : List ℕ)
 
   grown-found : rowByNumber grown n ≡ f
   grown-found =
-      number-found grown n f grown-size room (λ j h. rw (grown-old j (omega arith) (omega arith), differs j h) (and-false (filled (rowsOf c j))))
+      number-found grown n f grown-size room (λ j h. rw (grown-old j (omega arith) (omega arith), differs j h) (and-false (filledRow (rowsOf c j))))
       (rw (grown-state, grown-number) (same-refl n))
 
   grown-others : (m : List ℕ) → same m n ≡ false → rowByNumber grown m ≡ rowByNumber c m
   grown-others m e = numbers-agree grown c m grown-size sized (λ k kh. go k kh (ℕ-discrete k f))
     where
       go : (k : ℕ) → k < rowCount → Dec (k ≡ f) → hasNumber (rowsOf grown) m k ≡ hasNumber (rowsOf c) m k
-      go k kh (yes q) = rw (q, grown-number, other-number m n e, freed) (and-false (filled (rowsOf grown f)))
+      go k kh (yes q) = rw (q, grown-number, other-number m n e, freed) (and-false (filledRow (rowsOf grown f)))
       go k kh (no ne) = rw (grown-old k kh ne)
 
   grown-live : liveRow grown n ≡ f

@@ -10,6 +10,7 @@ use ledger::CANCELLED;
 use ledger::COMPARTMENT_SIZE;
 use ledger::LENGTH_PLACE;
 use ledger::LIVE;
+use ledger::NO_PARTNER;
 use ledger::NUMBER_PLACE;
 use ledger::NUMBER_ROOM;
 use ledger::PARTNER_PLACE;
@@ -19,9 +20,6 @@ use ledger::ROW_SIZE;
 use ledger::SIDE_PLACE;
 use ledger::STATE_PLACE;
 use ledger::ZEROS_PLACE;
-
-// What stands for no partner.
-const NO_PARTNER: u16 = 65535;
 
 // Byte i of the sixteen that hold a number: of the number, or a zero after it.
 fn padded_byte(n: &[u8], i: usize) -> u8

@@ -2,7 +2,7 @@
 -- Assumes nothing.
 use Prim.Native.Nat.{ℕ, _*_, _+_, _-_, _≤_, _<_}
 use native.Mathlib.Omega.{arith}
-use mathlib.Core.Bool.{Bool, true, false, cond}
+use mathlib.Core.Bool.{Bool, true, false, not, cond}
 use mathlib.Core.List.{List, _++_}
 use mathlib.Core.Path.{_≡_, refl, ap, sym, _∙_}
 use borrow.Author.Tests.{eq-eqb, ne-eqb, eqb-true, leb-true}
@@ -11,6 +11,7 @@ use lib.ListN.{length, take, drop}
 use Rattle.frame.specs.Every.{least}
 use Rattle.frame.specs.Isolation as I
 use Rattle.frame.specs.Parts.{part, put}
+use Rattle.frame.specs.Reply as R
 use Rattle.frame.proofs.BoolLaws.{and-left}
 use Rattle.frame.proofs.LeastLaws.{least-le}
 use Rattle.frame.proofs.PartLaws.{part-lent, put-lent}
@@ -60,11 +61,11 @@ module _ (reporters currencies : List ℕ) (call : Call) (sound : Bool) where
         unfolding refusalOf
         refused-13 e = rw (a, b, d, e) refl
 
-        pub refused-14 : nameUpTo 8 (call .sender) ≡ true → recordForm (call .message) ≡ false → 14 ≡ refusalOf reporters currencies call sound
+        pub refused-14 : nameUpTo 8 (call .sender) ≡ true → recordForm (call .«record») ≡ false → 14 ≡ refusalOf reporters currencies call sound
         unfolding refusalOf
         refused-14 e f = rw (a, b, d, e, f) refl
 
-        pub accepted-call : nameUpTo 8 (call .sender) ≡ true → recordForm (call .message) ≡ true → 0 ≡ refusalOf reporters currencies call sound
+        pub accepted-call : nameUpTo 8 (call .sender) ≡ true → recordForm (call .«record») ≡ true → 0 ≡ refusalOf reporters currencies call sound
         unfolding refusalOf
         accepted-call e f = rw (a, b, d, e, f) refl
 
@@ -73,22 +74,35 @@ pub record Accepted (reporters currencies : List ℕ) (call : Call) (sound : Boo
   pub listed : reportersOk reporters ≡ true
   pub ordered : currenciesOk currencies ≡ true
   pub kept : sound ≡ true
-  pub formed : recordForm (call .message) ≡ true
+  pub formed : recordForm (call .«record») ≡ true
 
 pub accepted : (reporters currencies : List ℕ) (call : Call) (sound : Bool) → refusalOf reporters currencies call sound ≡ 0
     → Accepted reporters currencies call sound
 unfolding refusalOf
 accepted reporters currencies call sound =
-    go (reportersOk reporters) (currenciesOk currencies) sound (nameUpTo 8 (call .sender)) (recordForm (call .message)) refl refl refl refl
+    go (reportersOk reporters) (currenciesOk currencies) sound (nameUpTo 8 (call .sender)) (recordForm (call .«record»)) refl refl refl refl
   where
-    go : (a b d e f : Bool) → reportersOk reporters ≡ a → currenciesOk currencies ≡ b → sound ≡ d → recordForm (call .message) ≡ f
-        → _≡_ {A = ℕ} (cond a (cond b (cond d (cond e (cond f 0 14) 13) 4) 3) 2) 0 → Accepted reporters currencies call sound
+    go : (a b d e f : Bool) → reportersOk reporters ≡ a → currenciesOk currencies ≡ b → sound ≡ d → recordForm (call .«record») ≡ f
+        → _≡_ {A = ℕ} (cond (not a) 2 (cond (not b) 3 (cond (not d) 4 (cond (not e) 13 (cond (not f) 14 0))))) 0 → Accepted reporters currencies call sound
     go true true true true true a b d f z = record { listed = a; ordered = b; kept = d; formed = f }
     go true true true true false a b d f z = absurd (omega arith)
     go true true true false f p b d q z = absurd (omega arith)
     go true true false e f p b d q z = absurd (omega arith)
     go true false d e f p b r q z = absurd (omega arith)
     go false b d e f p q r t z = absurd (omega arith)
+
+-- on a sound ledger no call is refused by 4
+pub refusal-never-four : (reporters currencies : List ℕ) (call : Call) → not (eqb (refusalOf reporters currencies call true) 4) ≡ true
+unfolding refusalOf
+refusal-never-four reporters currencies call =
+    go (reportersOk reporters) (currenciesOk currencies) (nameUpTo 8 (call .sender)) (recordForm (call .«record»))
+  where
+    go : (a b e f : Bool) → not (eqb (cond (not a) 2 (cond (not b) 3 (cond (not e) 13 (cond (not f) 14 0)))) 4) ≡ true
+    go true true true true = refl
+    go true true true false = refl
+    go true true false f = refl
+    go true false e f = refl
+    go false b e f = refl
 
 pub record-short : (s : List ℕ) → recordForm s ≡ true → length s ≤ recordLimit
 unfolding recordForm
@@ -108,17 +122,17 @@ pub indexed : (s stops : List ℕ) → stops ≡ stopsOf s → (n : ℕ) → fie
 indexed s stops e n = ap (λ (t : List ℕ). fieldBy s t n) e ∙ field-by s n
 
 -- the sender check on what the index gives
-pub checked-same : (reporters from s stops : List ℕ) {whole : Bool} {f1 f2 : List ℕ} {r : Checked} → stops ≡ stopsOf s → whole ≡ isWholeIndex stops
-    → f1 ≡ fieldBy s stops 1 → f2 ≡ fieldBy s stops 2 → r ≡ senderCheck reporters from whole f1 f2 → r ≡ checkedOf reporters (called from s)
+pub checked-same : (reporters sender s stops : List ℕ) {whole : Bool} {f1 f2 : List ℕ} {r : Checked} → stops ≡ stopsOf s → whole ≡ isWholeIndex stops
+    → f1 ≡ fieldBy s stops 1 → f2 ≡ fieldBy s stops 2 → r ≡ senderCheck reporters sender whole f1 f2 → r ≡ checkedOf reporters (called sender s)
 unfolding checkedOf
-checked-same reporters from s stops e w p q r =
-    r ∙ (λ i. senderCheck reporters from ((w ∙ ap isWholeIndex e ∙ whole-index s) i) ((p ∙ indexed s stops e 1) i) ((q ∙ indexed s stops e 2) i))
+checked-same reporters sender s stops e w p q r =
+    r ∙ (λ i. senderCheck reporters sender ((w ∙ ap isWholeIndex e ∙ whole-index s) i) ((p ∙ indexed s stops e 1) i) ((q ∙ indexed s stops e 2) i))
 
 -- the row for which a record passes is a bank's
 pub passed-bank : (reporters : List ℕ) (call : Call) {row : ℕ} → reportersOk reporters ≡ true → checkedOf reporters call ≡ Passed row → row < bankCount
 unfolding checkedOf
 passed-bank reporters call ok e =
-    let s = call .message in
+    let s = call .«record» in
     omega (arith, rows-below reporters ok, passed-row reporters (call .sender) (isWhole s) (fieldOf s 1) (fieldOf s 2) e .1)
 
 -- places 7 to 60 on what the index gives, with a search of the currency list in order
@@ -173,24 +187,24 @@ module _ (reporters currencies : List ℕ) (call : Call) (l : List ℕ) where
   refusal-is e = ap (refusalOf reporters currencies call) (rules-sound reporters currencies l) ∙ sym e
 
   pub call-refused : {n : ℕ} → n ≡ refusalOf reporters currencies call (soundLedger l) → (n ≡ 0 → ⊥)
-      → record { reply = I.refused n; ledger = l } ≡ I.single (rules reporters currencies) call l
+      → record { reply = R.refused n; ledger = l } ≡ I.single (rules reporters currencies) call l
   call-refused {n} e ne = sym (single-refused (rules reporters currencies) call l n (refusal-is e) ne)
 
   module _ (e : refusalOf reporters currencies call (soundLedger l) ≡ 0) {k : Checked} (q : k ≡ checkedOf reporters call) where
-    pub call-stranger : {failed : Failures} {a : Answer} → k ≡ Failed failed → a ≡ answerOf (failedOf k) noReporter noRow (call .message)
-        → record { reply = I.answer (answerBytes a); ledger = l } ≡ I.single (rules reporters currencies) call l
+    pub call-stranger : {failed : Failures} {a : Answer} → k ≡ Failed failed → a ≡ answerOf (failedOf k) noReporter noRow (call .«record»)
+        → record { reply = R.accepted (answerBytes a); ledger = l } ≡ I.single (rules reporters currencies) call l
     call-stranger f r =
         let none : rowOf (checkedOf reporters call) ≡ noReporter = ap rowOf (sym q ∙ f) in
-        ap (λ (w : Answer). record { reply = I.answer (answerBytes w); ledger = l })
-        (r ∙ ap (λ (m : Checked). answerOf (failedOf m) noReporter noRow (call .message)) q)
+        ap (λ (w : Answer). record { reply = R.accepted (answerBytes w); ledger = l })
+        (r ∙ ap (λ (m : Checked). answerOf (failedOf m) noReporter noRow (call .«record»)) q)
         ∙ sym (single-stranger (rules reporters currencies) call l (refusal-is (sym e)) (rw none (omega arith)))
 
     -- the compartment is lent as a part of the ledger, and comes back into its place
     pub call-step : {row : ℕ} {a : Answer} {d : List ℕ} → k ≡ Passed row → row < bankCount → length l ≡ ledgerSize
         → let lent = take (row * compartmentSize + compartmentSize - row * compartmentSize) (drop (row * compartmentSize) l) in
-        a ≡ stepAnswer reporters currencies row (call .message) lent → d ≡ stepCompartment reporters currencies row (call .message) lent
+        a ≡ stepAnswer reporters currencies row (call .«record») lent → d ≡ stepCompartment reporters currencies row (call .«record») lent
         → record {
-          reply = I.answer (answerBytes a);
+          reply = R.accepted (answerBytes a);
           ledger =
               take (row * compartmentSize) l
               ++ (d ++ drop (row * compartmentSize + compartmentSize - row * compartmentSize) (drop (row * compartmentSize) l));
@@ -199,13 +213,13 @@ module _ (reporters currencies : List ℕ) (call : Call) (l : List ℕ) where
         let inside : row * compartmentSize + compartmentSize ≤ length l = omega arith in
         let lent = part-lent compartmentSize row l inside .0 in
         let bank : rowOf (checkedOf reporters call) ≡ row = ap rowOf (sym q ∙ p) in
-        ap (λ (w : List ℕ). record { reply = I.answer (answerBytes a); ledger = w }) (put-lent compartmentSize row d l)
+        ap (λ (w : List ℕ). record { reply = R.accepted (answerBytes a); ledger = w }) (put-lent compartmentSize row d l)
         ∙ (λ i. record {
-          reply = I.answer (answerBytes ((b ∙ ap (stepAnswer reporters currencies row (call .message)) lent) i));
-          ledger = put compartmentSize row ((m ∙ ap (stepCompartment reporters currencies row (call .message)) lent) i) l;
+          reply = R.accepted (answerBytes ((b ∙ ap (stepAnswer reporters currencies row (call .«record»)) lent) i));
+          ledger = put compartmentSize row ((m ∙ ap (stepCompartment reporters currencies row (call .«record»)) lent) i) l;
         })
         ∙ (λ i. record {
-          reply = I.answer (answerBytes (stepAnswer reporters currencies (sym bank i) (call .message) (part compartmentSize row l)));
-          ledger = put compartmentSize row (stepCompartment reporters currencies (sym bank i) (call .message) (part compartmentSize row l)) l;
+          reply = R.accepted (answerBytes (stepAnswer reporters currencies (sym bank i) (call .«record») (part compartmentSize row l)));
+          ledger = put compartmentSize row (stepCompartment reporters currencies (sym bank i) (call .«record») (part compartmentSize row l)) l;
         })
         ∙ sym (single-step (rules reporters currencies) call l row (refusal-is (sym e)) bank h)

@@ -6,8 +6,8 @@ use mathlib.Core.Bool.{true}
 use mathlib.Core.List.{List, [], _∷_}
 use mathlib.Core.Path.{_≡_, _∙_}
 use Rattle.frame.specs.Isolation as I
-use Rattle.frame.specs.Isolation.{Isolated, compartment, single, ledgerAfter, answersFor}
-use Rattle.frame.proofs.Isolation.{Lawful, isolation}
+use Rattle.frame.specs.Isolation.{Lawful, Isolated, compartment, single, ledgerAfter, answersFor}
+use Rattle.frame.proofs.Isolation.{isolation}
 use Rattle.frame.proofs.Consequences as consequences
 use Rattle.failures.specs.declared.Failures.{Failures}
 use Rattle.ledger.specs.Sound.{bankCount, soundLedger}
@@ -23,7 +23,7 @@ module _ (reporters currencies : List ℕ) where
   lawful = record {
     size-positive = omega arith;
     sound-length = sound-size;
-    next-sound = λ call. step-sound reporters currencies (rowOf (checkedOf reporters call)) (call .message);
+    next-sound = λ call. step-sound reporters currencies (rowOf (checkedOf reporters call)) (call .«record»);
   }
 
   sound : (l : List ℕ) → soundLedger l ≡ true → I.soundLedger (rules reporters currencies) l ≡ true

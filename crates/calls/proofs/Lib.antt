@@ -6,4 +6,3 @@ pub mod RecordLaws
 pub mod ReadingLaws
 pub mod TakingLaws
 pub mod Files
-pub mod Worked

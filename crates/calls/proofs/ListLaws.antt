@@ -9,7 +9,8 @@ use borrow.Author.Tests.{ltb-true, ltb-false}
 use lib.Dec.{ltb}
 use lib.ListN.{length, length-append}
 use Rattle.frame.specs.Isolation as I
-use Rattle.frame.specs.Isolation.{Reply, refused, answer, single, replies, ledgerAfter}
+use Rattle.frame.specs.Reply.{Reply, refused, accepted}
+use Rattle.frame.specs.Isolation.{single, replies, ledgerAfter}
 use Rattle.frame.proofs.Isolation.{single-stranger, single-step}
 use Rattle.ledger.specs.Sound.{bankCount, soundLedger}
 use Rattle.answer.specs.Answer.{answerSize}
@@ -25,7 +26,7 @@ pub answers-append : (vs ws : List (Reply (List ℕ))) → answersIn (vs ++ ws) 
 unfolding answersIn
 answers-append [] ws = refl
 answers-append (refused n ∷ vs) ws = answers-append vs ws
-answers-append (answer a ∷ vs) ws = rw (answers-append vs ws, append-assoc)
+answers-append (accepted a ∷ vs) ws = rw (answers-append vs ws, append-assoc)
 
 module _ (reporters currencies : List ℕ) where
   pub after-append : (bs cs : List Call) (l : List ℕ)

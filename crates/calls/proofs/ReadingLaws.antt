@@ -9,6 +9,7 @@ use mathlib.Core.Path.{_≡_, refl, ap, sym, _∙_}
 use borrow.Author.Tests.{ne-eqb, lt-ltb, le-ltb, ltb-false}
 use lib.Dec.{eqb, ltb}
 use lib.ListN.{length, length-take, length-drop, length-map}
+use Rattle.frame.specs.Reply.{Reply, refused, accepted, refusalIn}
 use Rattle.tables.specs.Reporters.{reportersOk}
 use Rattle.tables.specs.Currencies.{currenciesOk}
 use Rattle.ledger.specs.Sound.{soundLedger}
@@ -18,13 +19,11 @@ use Rattle.envelope.specs.declared.Opened.{Opened}
 use Rattle.envelope.specs.declared.Opened.the-variants.{Report, Refused}
 use Rattle.envelope.specs.Pieces.{between}
 use Rattle.envelope.specs.Body.{records}
-use Rattle.envelope.specs.Envelope.{reportClass, openedOf, senderOf, recordsFrom}
-use Rattle.envelope.proofs.OpenedLaws.{Whole, opened-whole}
-use Rattle.calls.specs.declared.filing.Filed.the-variants.{Refusal}
+use Rattle.envelope.specs.Envelope.{reportClass, reportOf, openedAs, senderOf, recordsFrom}
+use Rattle.envelope.proofs.OpenedLaws.{Whole, opened-whole, refused-from-five}
 use Rattle.calls.specs.Call.{Call, called, recordLimit}
-use Rattle.calls.specs.Filing.{fileLimit, Reading, refusedBy, stands, reportCalls, openedReading, readingOf, FileOutcome, fileOutcome}
-use Rattle.calls.specs.Filing.{carriedOut, fileOf}
-use Rattle.calls.specs.FileSteps.{lentRefusal, refusalIn, callsFrom, Admitted, Open}
+use Rattle.calls.specs.Filing.{fileLimit, lentRefusal, reportCalls, openedReading, readingOf, FileOutcome, fileOutcome, carriedOut, fileOf}
+use Rattle.calls.specs.FileSteps.{callsFrom, Admitted, Open}
 use Rattle.calls.proofs.RecordLaws.{body-admitted}
 
 -- the returns of refusals 1 to 4, in their order
@@ -71,31 +70,18 @@ module _ (reporters currencies file : List ℕ) (sound : Bool) where
       go false true true false p q r s z = absurd (omega arith)
 
   -- a file call is refused by them, or read on
-  reading-by : (room : ℕ) → readingOf reporters currencies file room sound
-      ≡ cond (eqb (lentRefusal reporters currencies file sound) 0) (openedReading file room (openedOf file))
-      (refusedBy (lentRefusal reporters currencies file sound))
-  unfolding readingOf lentRefusal
-  reading-by room = go (ltb fileLimit (length file)) (reportersOk reporters) (currenciesOk currencies) sound (openedReading file room (openedOf file))
-    where
-      go : (h a b d : Bool) (w : Reading) → let n : ℕ = cond h 1 (cond (not a) 2 (cond (not b) 3 (cond (not d) 4 0))) in
-          cond h (refusedBy 1) (cond (not a) (refusedBy 2) (cond (not b) (refusedBy 3) (cond (not d) (refusedBy 4) w)))
-          ≡ cond (eqb n 0) w (refusedBy n)
-      go true a b d w = refl
-      go false false b d w = refl
-      go false true false d w = refl
-      go false true true false w = refl
-      go false true true true w = refl
-
   pub reading-lent : {n : ℕ} (room : ℕ) → n ≡ lentRefusal reporters currencies file sound → (n ≡ 0 → ⊥)
-      → readingOf reporters currencies file room sound ≡ refusedBy n
-  reading-lent {n} room e ne = reading-by room ∙ rw (← e, ne-eqb n 0 ne)
+      → readingOf reporters currencies file room sound ≡ refused n
+  unfolding readingOf
+  reading-lent {n} room e ne = rw (← e, ne-eqb n 0 ne)
 
   pub reading-on : (room : ℕ) → lentRefusal reporters currencies file sound ≡ 0
-      → readingOf reporters currencies file room sound ≡ openedReading file room (openedOf file)
-  reading-on room e = reading-by room ∙ rw e
+      → readingOf reporters currencies file room sound ≡ openedReading file room (reportOf file)
+  unfolding readingOf
+  reading-on room e = rw e
 
 -- A report to which none of them applies: its body, whose records are all in form, and the calls that it stands for.
-module _ (reporters currencies file : List ℕ) (sound : Bool) (free : Lent reporters currencies file sound) (l : Layout) (e : openedOf file ≡ Report l) where
+module _ (reporters currencies file : List ℕ) (sound : Bool) (free : Lent reporters currencies file sound) (l : Layout) (e : reportOf file ≡ accepted l) where
   abbrev body : List ℕ
   body = between file (l .first) (l .end)
 
@@ -121,45 +107,69 @@ module _ (reporters currencies file : List ℕ) (sound : Bool) (free : Lent repo
 
 -- no call that a file stands for is refused
 module _ (reporters currencies file : List ℕ) (room : ℕ) (calls : List Call) where
-  opened-admitted : Lent reporters currencies file true → (o : Opened) → openedOf file ≡ o → openedReading file room o ≡ stands calls
+  opened-admitted : Lent reporters currencies file true → (o : Reply Layout) → reportOf file ≡ o → openedReading file room o ≡ accepted calls
       → Admitted reporters currencies calls
-  opened-admitted free (Refused n) q h = let z : _≡_ {A = ℕ} 0 1 = cc in absurd (omega arith)
-  opened-admitted free (Report l) q h = go (ltb room (l .records * answerSize)) h
+  opened-admitted free (refused n) q h = let z : _≡_ {A = ℕ} 0 1 = cc in absurd (omega arith)
+  opened-admitted free (accepted l) q h = go (ltb room (l .records * answerSize)) h
     where
-      go : (b : Bool) → cond b (refusedBy 12) (stands (reportCalls file l)) ≡ stands calls → Admitted reporters currencies calls
+      go : (b : Bool) → cond b (refused 12) (accepted (reportCalls file l)) ≡ accepted calls → Admitted reporters currencies calls
       go true h = let z : _≡_ {A = ℕ} 0 1 = cc in absurd (omega arith)
       go false h =
           let same : reportCalls file l ≡ calls = cc in
           rw (← same, ← report-calls reporters currencies file true free l q) (report-admitted reporters currencies file true free l q)
 
-  pub standing-admitted : readingOf reporters currencies file room true ≡ stands calls → Admitted reporters currencies calls
+  pub standing-admitted : readingOf reporters currencies file room true ≡ accepted calls → Admitted reporters currencies calls
   standing-admitted e = go (ℕ-discrete (lentRefusal reporters currencies file true) 0)
     where
       go : Dec (lentRefusal reporters currencies file true ≡ 0) → Admitted reporters currencies calls
       go (yes z) =
-          opened-admitted (lent-ok reporters currencies file true z) (openedOf file) refl (sym (reading-on reporters currencies file true room z) ∙ e)
+          opened-admitted (lent-ok reporters currencies file true z) (reportOf file) refl (sym (reading-on reporters currencies file true room z) ∙ e)
       go (no ne) =
-          let refused : readingOf reporters currencies file room true ≡ refusedBy (lentRefusal reporters currencies file true)
+          let told : readingOf reporters currencies file room true ≡ refused (lentRefusal reporters currencies file true)
           = reading-lent reporters currencies file true room refl ne in
           let z : _≡_ {A = ℕ} 0 1 = cc in
           absurd (omega arith)
 
+-- a file is refused by a number, and not by 0
+pub reading-refused : (reporters currencies file : List ℕ) (room : ℕ) (sound : Bool) (n : ℕ)
+    → readingOf reporters currencies file room sound ≡ refused n → n ≡ 0 → ⊥
+reading-refused reporters currencies file room sound n e z = go (ℕ-discrete (lentRefusal reporters currencies file sound) 0)
+  where
+    full : (l : Layout) (b : Bool) → cond b (refused 12) (accepted (reportCalls file l)) ≡ refused n → ⊥
+    full l true q = let m : n ≡ 12 = cc in omega arith
+    full l false q = let y : _≡_ {A = ℕ} 0 1 = cc in omega arith
+
+    opened : (o : Reply Layout) → reportOf file ≡ o → openedReading file room o ≡ refused n → ⊥
+    opened (refused m) q h = let same : m ≡ n = cc in let five = refused-from-five reportClass file m q in omega arith
+    opened (accepted l) q h = full l (ltb room (l .records * answerSize)) h
+
+    go : Dec (lentRefusal reporters currencies file sound ≡ 0) → ⊥
+    go (yes free) = opened (reportOf file) refl (sym (reading-on reporters currencies file sound room free) ∙ e)
+    go (no ne) =
+        let told : readingOf reporters currencies file room sound ≡ refused (lentRefusal reporters currencies file sound)
+        = reading-lent reporters currencies file sound room refl ne in
+        let same : lentRefusal reporters currencies file sound ≡ n = cc in
+        ne (same ∙ z)
+
 -- The returns of the file call, on the ledger and the buffer that it is lent.
 module _ (reporters currencies file l a : List ℕ) where
   pub file-lent : {n : ℕ} → n ≡ lentRefusal reporters currencies file (soundLedger l) → (n ≡ 0 → ⊥)
-      → fileOutcome (Refusal n) l a ≡ fileOf reporters currencies file l a
+      → fileOutcome (refused n) l a ≡ fileOf reporters currencies file l a
   unfolding fileOf carriedOut
   file-lent e ne = rw (reading-lent reporters currencies file (soundLedger l) (length a) e ne)
 
-  module _ (free : lentRefusal reporters currencies file (soundLedger l) ≡ 0) {o : Opened} (q : o ≡ openedOf file) where
-    pub file-unopened : {n r : ℕ} → o ≡ Refused n → r ≡ refusalIn o → fileOutcome (Refusal r) l a ≡ fileOf reporters currencies file l a
+  module _ (free : lentRefusal reporters currencies file (soundLedger l) ≡ 0) {o : Opened} (q : openedAs o ≡ reportOf file) where
+    pub file-unopened : {n r : ℕ} → o ≡ Refused n → r ≡ refusalIn (openedAs o) → fileOutcome (refused r) l a ≡ fileOf reporters currencies file l a
     unfolding fileOf carriedOut
     file-unopened e h = rw (reading-on reporters currencies file (soundLedger l) (length a) free, ← q, h, e)
 
     module _ {y : Layout} (e : o ≡ Report y) where
-      pub file-full : length a < y .records * answerSize → fileOutcome (Refusal 12) l a ≡ fileOf reporters currencies file l a
+      abbrev found : reportOf file ≡ accepted y
+      found = sym q ∙ ap openedAs e
+
+      pub file-full : length a < y .records * answerSize → fileOutcome (refused 12) l a ≡ fileOf reporters currencies file l a
       unfolding fileOf carriedOut
-      file-full h = rw (reading-on reporters currencies file (soundLedger l) (length a) free, ← q, e, lt-ltb _ _ h)
+      file-full h = rw (reading-on reporters currencies file (soundLedger l) (length a) free, found, lt-ltb _ _ h)
 
       abbrev ok : Lent reporters currencies file (soundLedger l)
       ok = lent-ok reporters currencies file (soundLedger l) free
@@ -168,12 +178,12 @@ module _ (reporters currencies file l a : List ℕ) where
       records-of = between file (y .first) (y .end)
 
       pub file-open : y .records * answerSize ≤ length a → Open reporters currencies (senderOf file y) records-of 0 0 l a
-      file-open h = report-open reporters currencies file (soundLedger l) ok y (sym q ∙ e) l a (ok .kept) h
+      file-open h = report-open reporters currencies file (soundLedger l) ok y found l a (ok .kept) h
 
       pub file-taken : {w : FileOutcome} → y .records * answerSize ≤ length a
-          → w ≡ carriedOut reporters currencies (stands (callsFrom (senderOf file y) records-of 0)) l a → w ≡ fileOf reporters currencies file l a
+          → w ≡ carriedOut reporters currencies (accepted (callsFrom (senderOf file y) records-of 0)) l a → w ≡ fileOf reporters currencies file l a
       unfolding fileOf
       file-taken h t =
-          t ∙ rw (reading-on reporters currencies file (soundLedger l) (length a) free, ← q, e, le-ltb _ _ h)
-          (ap (λ (calls : List Call). carriedOut reporters currencies (stands calls) l a)
-          (report-calls reporters currencies file (soundLedger l) ok y (sym q ∙ e)))
+          t ∙ rw (reading-on reporters currencies file (soundLedger l) (length a) free, found, le-ltb _ _ h)
+          (ap (λ (calls : List Call). carriedOut reporters currencies (accepted calls) l a)
+          (report-calls reporters currencies file (soundLedger l) ok y found))

@@ -56,20 +56,20 @@ each-formed (b ∷ c ∷ s) = go (isRecordByte b) (begins crlf (b ∷ c ∷ s)) 
     go false false e f g = tt
 
 -- with tables in order and a sender in form, the calls of such records are not refused
-module _ (reporters currencies from : List ℕ) (a : reportersOk reporters ≡ true) (b : currenciesOk currencies ≡ true)
-    (named : nameUpTo 8 from ≡ true) where
+module _ (reporters currencies sender : List ℕ) (a : reportersOk reporters ≡ true) (b : currenciesOk currencies ≡ true)
+    (named : nameUpTo 8 sender ≡ true) where
   formed-admitted : (n : ℕ) → n ≤ recordLimit → (rs : List (List ℕ)) → EachFormed n (records rs)
-      → Admitted reporters currencies (map (called from) rs)
+      → Admitted reporters currencies (map (called sender) rs)
   unfolding recordForm
   formed-admitted n h [] f = tt
   formed-admitted n h (r ∷ rs) f =
       let e = f .0 in
       let short : length r ≤ recordLimit = omega arith in
-      (sym (accepted-call reporters currencies (called from r) true a b refl named (and-intro _ _ (le-leb _ _ short) (f .1))), formed-admitted n h rs (f .2))
+      (sym (accepted-call reporters currencies (called sender r) true a b refl named (and-intro _ _ (le-leb _ _ short) (f .1))), formed-admitted n h rs (f .2))
 
-  pub body-admitted : (body : List ℕ) → length body ≤ recordLimit → Admitted reporters currencies (callsFrom from body 0)
+  pub body-admitted : (body : List ℕ) → length body ≤ recordLimit → Admitted reporters currencies (callsFrom sender body 0)
   body-admitted body h = go (recordsOf body) (each-formed body)
     where
-      go : (rs : Records) → EachFormed (length body) rs → Admitted reporters currencies (map (called from) (listed rs))
+      go : (rs : Records) → EachFormed (length body) rs → Admitted reporters currencies (map (called sender) (listed rs))
       go broken f = tt
       go (records rs) f = formed-admitted (length body) h rs f

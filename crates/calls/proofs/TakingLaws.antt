@@ -9,6 +9,7 @@ use lib.ListN.{length, take, drop, length-append, take-append-drop}
 use lib.Seq.{take-at, drop-at, drop-drop, length-take-le}
 use Rattle.frame.specs.Isolation.{Outcome, single, replies, ledgerAfter}
 use Rattle.frame.specs.Parts.{put}
+use Rattle.frame.specs.Reply.{accepted}
 use Rattle.frame.proofs.PartLaws.{put-length}
 use Rattle.text.specs.declared.Class.the-variants.{RecordByte}
 use Rattle.ledger.specs.Sound.{soundLedger}
@@ -20,12 +21,11 @@ use Rattle.envelope.specs.Pieces.{runOf}
 use Rattle.envelope.specs.Body.{Records, broken, records, withRecord, recordsOf, recordAt, lineEnd}
 use Rattle.envelope.specs.Envelope.{listed}
 use Rattle.envelope.proofs.LineLaws.{lines-on, lines-off, lines-end, line-placed}
-use Rattle.calls.specs.declared.Reply.the-variants.{Answered}
-use Rattle.calls.specs.declared.filing.Filed.the-variants.{Count}
+use Rattle.calls.specs.declared.Replied.the-variants.{Answered}
 use Rattle.calls.specs.Call.{Call, called, refusalOf}
 use Rattle.calls.specs.Rules.{rules}
-use Rattle.calls.specs.Reply.{outcome}
-use Rattle.calls.specs.Filing.{stands, answersIn, FileOutcome, fileOutcome, carriedOut}
+use Rattle.calls.specs.Replied.{outcome}
+use Rattle.calls.specs.Filing.{answersIn, FileOutcome, fileOutcome, carriedOut}
 use Rattle.calls.specs.FileSteps.{callsFrom, Admitted, Ready, Taken, Open}
 use Rattle.calls.proofs.ListLaws.{answers-append, after-sound, single-answered}
 
@@ -59,18 +59,18 @@ module _ (body : List ℕ) (at next : ℕ) (more : at < length body) (e : lineEn
       ap (λ (m : ℕ). take m (drop at body)) n
 
 -- the call of a record that stands ready, and its answer, written as number k
-module _ (reporters currencies from body : List ℕ) (at k : ℕ) (l a : List ℕ) (h : Ready reporters currencies from body at k l a) where
+module _ (reporters currencies sender body : List ℕ) (at k : ℕ) (l a : List ℕ) (h : Ready reporters currencies sender body at k l a) where
   pub lent-admitted : {next : ℕ} → lineEnd body at ≡ EndsAt next
-      → refusalOf reporters currencies (called from (take (next - 2 - at) (drop at body))) (soundLedger l) ≡ 0
+      → refusalOf reporters currencies (called sender (take (next - 2 - at) (drop at body))) (soundLedger l) ≡ 0
   lent-admitted {next} e =
-      ap (λ (r : List ℕ). refusalOf reporters currencies (called from r) (soundLedger l)) (record-lent body at next (h .more) e) ∙ h .admitted
+      ap (λ (r : List ℕ). refusalOf reporters currencies (called sender r) (soundLedger l)) (record-lent body at next (h .more) e) ∙ h .admitted
 
   pub record-taken : {next : ℕ} (w : Answer) {m b : List ℕ} → lineEnd body at ≡ EndsAt next
-      → outcome (Answered w) m ≡ single (rules reporters currencies) (called from (take (next - 2 - at) (drop at body))) l
-      → b ≡ answerPut (k * answerSize) w a → Taken reporters currencies from body at k l a next m b
+      → outcome (Answered w) m ≡ single (rules reporters currencies) (called sender (take (next - 2 - at) (drop at body))) l
+      → b ≡ answerPut (k * answerSize) w a → Taken reporters currencies sender body at k l a next m b
   unfolding answerPut put answersIn
   record-taken {next} w {m} {b} e o p =
-      let call : List ℕ → Call = called from in
+      let call : List ℕ → Call = called sender in
       let done : outcome (Answered w) m ≡ single (rules reporters currencies) (call (recordAt body at)) l
       = o ∙ ap (λ (r : List ℕ). single (rules reporters currencies) (call r) l) (record-lent body at next (h .more) e) in
       let bytes : answerBytes w ≡ answersIn (single (rules reporters currencies) (call (recordAt body at)) l .reply ∷ [])
@@ -85,7 +85,7 @@ module _ (reporters currencies : List ℕ) where
   -- what the calls that are left bring, after k answers
   abbrev pub outcomeFrom : ℕ → List Call → List ℕ → List ℕ → FileOutcome
   outcomeFrom k calls l a =
-      fileOutcome (Count (k + length calls)) (ledgerAfter (rules reporters currencies) calls l)
+      fileOutcome (accepted (k + length calls)) (ledgerAfter (rules reporters currencies) calls l)
       (take (k * answerSize) a ++ (answersIn (replies (rules reporters currencies) calls l) ++ drop ((k + length calls) * answerSize) a))
 
   -- the first of them is called, and its answer written
@@ -102,14 +102,14 @@ module _ (reporters currencies : List ℕ) where
       = answers-append (o .reply ∷ []) (replies (rules reporters currencies) cs (o .ledger)) in
       rw (count, joined, put-front k w a sized room, put-behind k w a sized room (length cs)) (simp append-assoc)
 
-  module _ (from body : List ℕ) where
+  module _ (sender body : List ℕ) where
     -- what holds as the records are taken: the calls from a place on are left, k are answered, and the end is as it was
     pub record Going (l₀ a₀ : List ℕ) (at k : ℕ) (l a : List ℕ) : Type 0 where
-      pub now : Open reporters currencies from body at k l a
+      pub now : Open reporters currencies sender body at k l a
       pub long : length a ≡ length a₀
-      pub same : outcomeFrom 0 (callsFrom from body 0) l₀ a₀ ≡ outcomeFrom k (callsFrom from body at) l a
+      pub same : outcomeFrom 0 (callsFrom sender body 0) l₀ a₀ ≡ outcomeFrom k (callsFrom sender body at) l a
 
-    pub going-start : (l a : List ℕ) → Open reporters currencies from body 0 0 l a → Going l a 0 0 l a
+    pub going-start : (l a : List ℕ) → Open reporters currencies sender body 0 0 l a → Going l a 0 0 l a
     going-start l a h = record { now = h; long = refl; same = refl }
 
     -- a record in front of the others
@@ -129,39 +129,39 @@ module _ (reporters currencies : List ℕ) where
       -- the calls that are left are the record's at this place, and those from the next place on
       module _ (next : ℕ) (e : lineEnd body at ≡ EndsAt next) where
         split : (recordsOf (drop next body) ≡ records (listed (recordsOf (drop next body))))
-            × (callsFrom from body at ≡ called from (recordAt body at) ∷ callsFrom from body next)
+            × (callsFrom sender body at ≡ called sender (recordAt body at) ∷ callsFrom sender body next)
         split =
             let on = lines-on body at next more e in
             let w = with-record (recordAt body at) (recordsOf (drop next body)) (sym on ∙ g .now .whole ∙ ap (λ (r : Records). records (listed r)) on) in
-            (w .0, ap (λ (r : Records). map (called from) (listed r)) on ∙ ap (map (called from)) (w .1))
+            (w .0, ap (λ (r : Records). map (called sender) (listed r)) on ∙ ap (map (called sender)) (w .1))
 
-        free : (refusalOf reporters currencies (called from (recordAt body at)) (soundLedger l) ≡ 0)
-            × Admitted reporters currencies (callsFrom from body next)
+        free : (refusalOf reporters currencies (called sender (recordAt body at)) (soundLedger l) ≡ 0)
+            × Admitted reporters currencies (callsFrom sender body next)
         free =
-            let h : Admitted reporters currencies (called from (recordAt body at) ∷ callsFrom from body next) = rw (split .1) at (g .now .admitted) in
-            (ap (refusalOf reporters currencies (called from (recordAt body at))) (g .now .sound) ∙ h .0, h .1)
+            let h : Admitted reporters currencies (called sender (recordAt body at) ∷ callsFrom sender body next) = rw (split .1) at (g .now .admitted) in
+            (ap (refusalOf reporters currencies (called sender (recordAt body at))) (g .now .sound) ∙ h .0, h .1)
 
         room : k * answerSize + answerSize ≤ length a
         room =
-            let count : length (callsFrom from body at) ≡ suc (length (callsFrom from body next)) = ap length (split .1) in
+            let count : length (callsFrom sender body at) ≡ suc (length (callsFrom sender body next)) = ap length (split .1) in
             let r = g .now .room in
             omega arith
 
-      pub going-ready : Ready reporters currencies from body at k l a
+      pub going-ready : Ready reporters currencies sender body at k l a
       going-ready = go (lineEnd body at) refl
         where
-          go : (p : Piece) → lineEnd body at ≡ p → Ready reporters currencies from body at k l a
+          go : (p : Piece) → lineEnd body at ≡ p → Ready reporters currencies sender body at k l a
           go (EndsAt next) e = record { more = more; line = line-there; admitted = free next e .0; room = room next e }
           go Missing e = absurd (line-there e)
 
-      pub going-step : (next : ℕ) (l' a' : List ℕ) → Taken reporters currencies from body at k l a next l' a' → Going l₀ a₀ next (k + 1) l' a'
+      pub going-step : (next : ℕ) (l' a' : List ℕ) → Taken reporters currencies sender body at k l a next l' a' → Going l₀ a₀ next (k + 1) l' a'
       going-step next l' a' t =
-          let call : Call = called from (recordAt body at) in
+          let call : Call = called sender (recordAt body at) in
           let e = t .line in
           let sized = single-answered reporters currencies call l (free next e .0) in
           let long : length a' ≡ length a
           = ap length (t .buffer) ∙ put-length answerSize k (answersIn (single (rules reporters currencies) call l .reply ∷ [])) a (room next e) sized in
-          let count : length (callsFrom from body at) ≡ suc (length (callsFrom from body next)) = ap length (split next e .1) in
+          let count : length (callsFrom sender body at) ≡ suc (length (callsFrom sender body next)) = ap length (split next e .1) in
           let r = g .now .room in
           record {
             now = record {
@@ -173,18 +173,18 @@ module _ (reporters currencies : List ℕ) where
             long = long ∙ g .long;
             same =
                 g .same
-                ∙ rw (split next e .1, t .buffer, t .ledger) (outcome-step k call (callsFrom from body next) l a (free next e .0) (room next e));
+                ∙ rw (split next e .1, t .buffer, t .ledger) (outcome-step k call (callsFrom sender body next) l a (free next e .0) (room next e));
           }
 
     -- at the body's end all is done
     pub going-done : (l₀ a₀ : List ℕ) (at k : ℕ) (l a : List ℕ) → Going l₀ a₀ at k l a → length body ≤ at
-        → fileOutcome (Count k) l a ≡ carriedOut reporters currencies (stands (callsFrom from body 0)) l₀ a₀
+        → fileOutcome (accepted k) l a ≡ carriedOut reporters currencies (accepted (callsFrom sender body 0)) l₀ a₀
     unfolding carriedOut answersIn
     going-done l₀ a₀ at k l a g h =
-        let none : callsFrom from body at ≡ [] = ap (λ (r : Records). map (called from) (listed r)) (lines-end body at h) in
-        let last : outcomeFrom k [] l a ≡ fileOutcome (Count k) l a
-        = (let e : k + 0 ≡ k = omega arith in rw e (ap (fileOutcome (Count k) l) (take-append-drop (k * answerSize) a))) in
-        let all : ℕ = length (callsFrom from body 0) in
-        let first : carriedOut reporters currencies (stands (callsFrom from body 0)) l₀ a₀ ≡ outcomeFrom 0 (callsFrom from body 0) l₀ a₀
+        let none : callsFrom sender body at ≡ [] = ap (λ (r : Records). map (called sender) (listed r)) (lines-end body at h) in
+        let last : outcomeFrom k [] l a ≡ fileOutcome (accepted k) l a
+        = (let e : k + 0 ≡ k = omega arith in rw e (ap (fileOutcome (accepted k) l) (take-append-drop (k * answerSize) a))) in
+        let all : ℕ = length (callsFrom sender body 0) in
+        let first : carriedOut reporters currencies (accepted (callsFrom sender body 0)) l₀ a₀ ≡ outcomeFrom 0 (callsFrom sender body 0) l₀ a₀
         = (let e : 0 + all ≡ all = omega arith in rw e) in
         sym (first ∙ g .same ∙ rw none last)

@@ -1,7 +1,7 @@
 -- The single-record call of document 01: its refusals, its sender check, its answer and its booking.
 -- Assumes nothing.
 use Prim.Native.Nat.{ℕ}
-use mathlib.Core.Bool.{Bool, _&&_, cond}
+use mathlib.Core.Bool.{Bool, _&&_, not, cond}
 use mathlib.Core.List.{List}
 use lib.Dec.{leb, eqb}
 use lib.ListN.{length}
@@ -28,7 +28,7 @@ use Rattle.answer.specs.declared.Answer.{Answer}
 -- the arguments of a call but for the tables and the ledger
 pub record Call : Type 0 where
   pub sender : List ℕ
-  pub message : List ℕ  -- the record
+  pub «record» : List ℕ
 
 -- the largest record, the row of none, no new row
 abbrev pub recordLimit : ℕ
@@ -42,18 +42,21 @@ noRow = 65535
 
 -- the record is at most 32,768 bytes, without CR, LF or apostrophe
 unfoldable pub recordForm : List ℕ → Bool
-recordForm s = leb (length s) recordLimit && all isRecordByte s
+recordForm «record» = leb (length «record») recordLimit && all isRecordByte «record»
 
 -- the number by which a call is refused, the first that applies; 0 for none. Whether the ledger is sound is given
 unfoldable pub refusalOf : List ℕ → List ℕ → Call → Bool → ℕ
 refusalOf reporters currencies call sound =
-    cond (reportersOk reporters) (cond (currenciesOk currencies) (cond sound
-    (cond (nameUpTo 8 (call .sender)) (cond (recordForm (call .message)) 0 14) 13) 4) 3) 2
+    cond (not (reportersOk reporters)) 2
+    (cond (not (currenciesOk currencies)) 3
+    (cond (not sound) 4
+    (cond (not (nameUpTo 8 (call .sender))) 13
+    (cond (not (recordForm (call .«record»))) 14 0))))
 
 -- the sender check of a call's record
 unfoldable pub checkedOf : List ℕ → Call → Checked
 checkedOf reporters call =
-    let s = call .message in senderCheck reporters (call .sender) (isWhole s) (fieldOf s 1) (fieldOf s 2)
+    senderCheck reporters (call .sender) (isWhole (call .«record»)) (fieldOf (call .«record») 1) (fieldOf (call .«record») 2)
 
 -- the row for which the record passes it, 255 for none; and the failures of places 0 to 6
 abbrev pub rowOf : Checked → ℕ
@@ -66,34 +69,35 @@ failedOf (Failed failed) = failed
 
 -- the answer record of a record: its failures, its reporter's row, the new row, and its length
 unfoldable pub answerOf : Failures → ℕ → ℕ → List ℕ → Answer
-answerOf failed row new s =
+answerOf failed row new «record» =
     record {
       failed = failed .bits;
       code = codeAt (firstPlace failed);
       row = row;
       status = statusOf failed;
       booked = new;
-      length = length s;
+      length = length «record»;
     }
 
 -- "No failure": the free row gets F39, F22's value and F7; the named row, if there is one, is cancelled
 unfoldable pub bookedAs : ℕ → ℕ → List ℕ → List ℕ → List ℕ
-bookedAs free named s c = booked free (fieldOf s 39) (valueOf (decimalOf 15 4 (fieldOf s 22))) (letter (fieldOf s 7)) named c
+bookedAs free named «record» c =
+    booked free (fieldOf «record» 39) (valueOf (decimalOf 15 4 (fieldOf «record» 22))) (letter (fieldOf «record» 7)) named c
 
 -- A record that passes the sender check for a row, on that bank's compartment: its failures, its answer, and the compartment afterwards.
-module _ (reporters currencies : List ℕ) (row : ℕ) (s c : List ℕ) where
+module _ (reporters currencies : List ℕ) (row : ℕ) («record» c : List ℕ) where
   abbrev pub foundRows : Booking
-  foundRows = bookingOf c (fieldOf s 16) (fieldOf s 39)
+  foundRows = bookingOf c (fieldOf «record» 16) (fieldOf «record» 39)
 
   unfoldable pub stepFailures : Failures
-  stepFailures = failuresFrom7 reporters (isMoney currencies) row (fieldOf s) c
+  stepFailures = failuresFrom7 reporters (isMoney currencies) row (fieldOf «record») c
 
   unfoldable pub stepAnswer : Answer
-  stepAnswer = answerOf stepFailures row (cond (eqb (stepFailures .bits) 0) (foundRows .free) noRow) s
+  stepAnswer = answerOf stepFailures row (cond (eqb (stepFailures .bits) 0) (foundRows .free) noRow) «record»
 
   unfoldable pub stepCompartment : List ℕ
-  stepCompartment = cond (eqb (stepFailures .bits) 0) (bookedAs (foundRows .free) (foundRows .named) s c) c
+  stepCompartment = cond (eqb (stepFailures .bits) 0) (bookedAs (foundRows .free) (foundRows .named) «record» c) c
 
 -- the call of a sender with a record
 abbrev pub called : List ℕ → List ℕ → Call
-called sender message = record { sender = sender; message = message }
+called sender «record» = record { sender = sender; «record» = «record» }

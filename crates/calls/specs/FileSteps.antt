@@ -1,44 +1,25 @@
--- What the private functions of the file call ask and promise: refusals 1 to 4, one record of a body, and all its records.
+-- What the private functions of the file call ask and promise: of one record of a body, and of all its records.
 -- Assumes nothing.
 use Prim.Native.Nat.{ℕ, _+_, _*_, _≤_, _<_}
-use mathlib.Core.Bool.{Bool, true, not, cond}
+use mathlib.Core.Bool.{true}
 use mathlib.Core.List.{List, [], _∷_, map}
 use mathlib.Core.Path.{_≡_}
-use lib.Dec.{ltb}
 use lib.ListN.{length, drop}
 use Rattle.frame.specs.Isolation.{single}
 use Rattle.frame.specs.Parts.{put}
-use Rattle.tables.specs.Reporters.{reportersOk}
-use Rattle.tables.specs.Currencies.{currenciesOk}
 use Rattle.ledger.specs.Sound.{soundLedger}
 use Rattle.answer.specs.Answer.{answerSize}
-use Rattle.envelope.specs.declared.Layout.{Layout}
-use Rattle.envelope.specs.declared.Opened.{Opened}
-use Rattle.envelope.specs.declared.Opened.the-variants.{Report, Refused}
 use Rattle.envelope.specs.declared.Piece.{Piece}
 use Rattle.envelope.specs.declared.Piece.the-variants.{EndsAt, Missing}
 use Rattle.envelope.specs.Body.{records, recordsOf, recordAt, lineEnd}
 use Rattle.envelope.specs.Envelope.{listed}
 use Rattle.calls.specs.Call.{Call, called, refusalOf}
 use Rattle.calls.specs.Rules.{rules}
-use Rattle.calls.specs.Filing.{fileLimit, answersIn}
-
--- the first of refusals 1 to 4 that applies; 0 for none. Whether the ledger is sound is given
-unfoldable pub lentRefusal : List ℕ → List ℕ → List ℕ → Bool → ℕ
-lentRefusal reporters currencies file sound =
-    cond (ltb fileLimit (length file)) 1
-    (cond (not (reportersOk reporters)) 2
-    (cond (not (currenciesOk currencies)) 3
-    (cond (not sound) 4 0)))
-
--- the number of the refusal that opening a file gave; 0 for a report
-abbrev pub refusalIn : Opened → ℕ
-refusalIn (Refused n) = n
-refusalIn (Report l) = 0
+use Rattle.calls.specs.Filing.{answersIn}
 
 -- the calls, by a sender, of the records of a body from a place on
 abbrev pub callsFrom : List ℕ → List ℕ → ℕ → List Call
-callsFrom from body at = map (called from) (listed (recordsOf (drop at body)))
+callsFrom sender body at = map (called sender) (listed (recordsOf (drop at body)))
 
 module _ (reporters currencies : List ℕ) where
   -- no call of the list is refused on a sound ledger
@@ -46,23 +27,23 @@ module _ (reporters currencies : List ℕ) where
   Admitted [] = Unit {0}
   Admitted (c ∷ cs) = (refusalOf reporters currencies c true ≡ 0) × Admitted cs
 
-  module _ (from body : List ℕ) where
+  module _ (sender body : List ℕ) where
     -- a record stands at a place of the body, its call is not refused, and there is room for answer k
     pub record Ready (at k : ℕ) (l a : List ℕ) : Type 0 where
       pub more : at < length body
       pub line : lineEnd body at ≡ Missing → ⊥
-      pub admitted : refusalOf reporters currencies (called from (recordAt body at)) (soundLedger l) ≡ 0
+      pub admitted : refusalOf reporters currencies (called sender (recordAt body at)) (soundLedger l) ≡ 0
       pub room : k * answerSize + answerSize ≤ length a
 
     -- that record was called singly, its answer is number k, and the next record stands at another place
     pub record Taken (at k : ℕ) (l a : List ℕ) (next : ℕ) (l' a' : List ℕ) : Type 0 where
       pub line : lineEnd body at ≡ EndsAt next
-      pub ledger : l' ≡ single (rules reporters currencies) (called from (recordAt body at)) l .ledger
-      pub buffer : a' ≡ put answerSize k (answersIn (single (rules reporters currencies) (called from (recordAt body at)) l .reply ∷ [])) a
+      pub ledger : l' ≡ single (rules reporters currencies) (called sender (recordAt body at)) l .ledger
+      pub buffer : a' ≡ put answerSize k (answersIn (single (rules reporters currencies) (called sender (recordAt body at)) l .reply ∷ [])) a
 
     -- the body is of the layout from a place on, none of its calls is refused, the ledger is sound, and from answer k on there is room
     pub record Open (at k : ℕ) (l a : List ℕ) : Type 0 where
       pub whole : recordsOf (drop at body) ≡ records (listed (recordsOf (drop at body)))
-      pub admitted : Admitted (callsFrom from body at)
+      pub admitted : Admitted (callsFrom sender body at)
       pub sound : soundLedger l ≡ true
-      pub room : (k + length (callsFrom from body at)) * answerSize ≤ length a
+      pub room : (k + length (callsFrom sender body at)) * answerSize ≤ length a

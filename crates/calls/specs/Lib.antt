@@ -1,6 +1,7 @@
 pub mod Call
 pub mod Rules
-pub mod Reply
+pub mod Replied
 pub mod Filing
 pub mod FileSteps
 pub mod Mixed
+pub mod Worked

@@ -1,17 +1,18 @@
 -- Demand 3 of document 01 for files: a list of single-record calls and file calls in any mix.
 -- Assumes nothing.
 use Prim.Native.Nat.{ℕ, _*_}
-use mathlib.Core.Bool.{Bool, true}
-use mathlib.Core.List.{List, [], _∷_, _++_}
+use mathlib.Core.Bool.{Bool, true, not, cond}
+use mathlib.Core.List.{List, [], _∷_, _++_, map}
 use mathlib.Core.Path.{_≡_}
+use lib.Dec.{eqb}
 use lib.ListN.{length, take}
+use Rattle.frame.specs.Reply.{Reply, refused, accepted, refusalIn}
 use Rattle.frame.specs.Isolation.{Isolated, single, replies, ledgerAfter}
+use Rattle.text.specs.Bytes.{all}
 use Rattle.answer.specs.Answer.{answerSize}
-use Rattle.calls.specs.Call.{Call}
+use Rattle.calls.specs.Call.{Call, refusalOf}
 use Rattle.calls.specs.Rules.{rules}
-use Rattle.calls.specs.declared.filing.Filed.{Filed}
-use Rattle.calls.specs.declared.filing.Filed.the-variants.{Refusal, Count}
-use Rattle.calls.specs.Filing.{Reading, refusedBy, stands, readingOf, fileOf, answersIn, FileOutcome}
+use Rattle.calls.specs.Filing.{readingOf, fileOf, answersIn, FileOutcome}
 
 -- one request to the bureau: a single-record call, or a file call with the answer buffer that is lent
 pub data Request : Type 0 where
@@ -20,14 +21,23 @@ pub data Request : Type 0 where
 
 -- the answers in a buffer after a file call: 16 bytes a record from its start
 abbrev pub answersOf : FileOutcome → List ℕ
-answersOf o = written (o .filed)
+answersOf o = inBuffer (o .reply)
   where
-    written : Filed → List ℕ
-    written (Refusal n) = []
-    written (Count n) = take (n * answerSize) (o .buffer)
+    inBuffer : Reply ℕ → List ℕ
+    inBuffer (refused n) = []
+    inBuffer (accepted n) = take (n * answerSize) (o .buffer)
+
+-- a reply as the number of its refusal, or how many answers it gives: one for a single record, a file's count for the calls that it stands for
+abbrev pub oneAnswer : {A : Type 0} → Reply A → Reply ℕ
+oneAnswer (refused n) = refused n
+oneAnswer (accepted a) = accepted 1
+
+abbrev pub manyAnswers : Reply (List Call) → Reply ℕ
+manyAnswers (refused n) = refused n
+manyAnswers (accepted calls) = accepted (length calls)
 
 module _ (reporters currencies : List ℕ) where
-  -- what a request leaves and answers, on the ledger as it then is
+  -- what a request leaves, answers and returns, on the ledger as it then is
   abbrev pub requestLedger : Request → List ℕ → List ℕ
   requestLedger (record-call c) l = single (rules reporters currencies) c l .ledger
   requestLedger (file-call file a) l = fileOf reporters currencies file l a .ledger
@@ -35,6 +45,10 @@ module _ (reporters currencies : List ℕ) where
   abbrev pub requestAnswers : Request → List ℕ → List ℕ
   requestAnswers (record-call c) l = answersIn (single (rules reporters currencies) c l .reply ∷ [])
   requestAnswers (file-call file a) l = answersOf (fileOf reporters currencies file l a)
+
+  abbrev pub requestReply : Request → List ℕ → Reply ℕ
+  requestReply (record-call c) l = oneAnswer (single (rules reporters currencies) c l .reply)
+  requestReply (file-call file a) l = fileOf reporters currencies file l a .reply
 
   -- a list of requests, each on the ledger that the last one left
   abbrev pub ledgerOver : List Request → List ℕ → List ℕ
@@ -45,10 +59,14 @@ module _ (reporters currencies : List ℕ) where
   answersOver [] l = []
   answersOver (q ∷ qs) l = requestAnswers q l ++ answersOver qs (requestLedger q l)
 
+  abbrev pub repliesOver : List Request → List ℕ → List (Reply ℕ)
+  repliesOver [] l = []
+  repliesOver (q ∷ qs) l = requestReply q l ∷ repliesOver qs (requestLedger q l)
+
   -- the single-record calls that a request stands for, the ledger being sound: none for a refused file
-  abbrev pub callsOf : Reading → List Call
-  callsOf (refusedBy n) = []
-  callsOf (stands calls) = calls
+  abbrev pub callsOf : Reply (List Call) → List Call
+  callsOf (refused n) = []
+  callsOf (accepted calls) = calls
 
   abbrev pub requestCalls : Request → List Call
   requestCalls (record-call c) = c ∷ []
@@ -58,8 +76,16 @@ module _ (reporters currencies : List ℕ) where
   callsOver [] = []
   callsOver (q ∷ qs) = requestCalls q ++ callsOver qs
 
-  -- The claim: the ledger and the answers are those of the single-record calls that the requests stand for, and demand 3 holds of these.
+  -- what a request returns on every sound ledger
+  abbrev pub soundReply : Request → Reply ℕ
+  soundReply (record-call c) = let n = refusalOf reporters currencies c true in cond (eqb n 0) (accepted 1) (refused n)
+  soundReply (file-call file a) = manyAnswers (readingOf reporters currencies file (length a) true)
+
+  -- The claim: the ledger and the answers are those of the single-record calls that the requests stand for, and demand 3 holds of these; each request
+  -- returns what it returns on every sound ledger, and 4 is never among the refusals.
   pub record FilesIsolated (qs : List Request) (l : List ℕ) : Type 0 where
     pub sameLedger : ledgerOver qs l ≡ ledgerAfter (rules reporters currencies) (callsOver qs) l
     pub sameAnswers : answersOver qs l ≡ answersIn (replies (rules reporters currencies) (callsOver qs) l)
+    pub sameReplies : repliesOver qs l ≡ map soundReply qs
+    pub neverFour : all (λ n. not (eqb n 4)) (map refusalIn (repliesOver qs l)) ≡ true
     pub isolated : Isolated (rules reporters currencies) (callsOver qs) l

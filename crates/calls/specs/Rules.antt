@@ -16,7 +16,7 @@ rules reporters currencies = record {
   sound = soundCompartment;
   refusal = refusalOf reporters currencies;
   bank = λ call. rowOf (checkedOf reporters call);
-  stranger = λ call. answerBytes (answerOf (failedOf (checkedOf reporters call)) noReporter noRow (call .message));
-  judge = λ call c. answerBytes (stepAnswer reporters currencies (rowOf (checkedOf reporters call)) (call .message) c);
-  next = λ call c. stepCompartment reporters currencies (rowOf (checkedOf reporters call)) (call .message) c;
+  stranger = λ call. answerBytes (answerOf (failedOf (checkedOf reporters call)) noReporter noRow (call .«record»));
+  judge = λ call c. answerBytes (stepAnswer reporters currencies (rowOf (checkedOf reporters call)) (call .«record») c);
+  next = λ call c. stepCompartment reporters currencies (rowOf (checkedOf reporters call)) (call .«record») c;
 }

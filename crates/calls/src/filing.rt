@@ -1,28 +1,33 @@
 // The file call: the records of a report, called singly by its sender.
 ghost use mathlib.Core.Path.{_≡_};
+ghost use Rattle.frame.specs.Reply.{accepted, refusalIn};
 ghost use Rattle.ledger.specs.Sound.{soundLedger};
-ghost use Rattle.calls.specs.declared.filing.Filed.the-variants.{Count};
-ghost use Rattle.calls.specs.Filing.{stands, fileOutcome, carriedOut, fileOf};
-ghost use Rattle.calls.specs.FileSteps.{lentRefusal, refusalIn, callsFrom, Ready, Taken, Open};
+ghost use Rattle.envelope.specs.Envelope.{openedAs};
+ghost use Rattle.calls.specs.Replied.{filedAs};
+ghost use Rattle.calls.specs.Filing.{lentRefusal, fileOutcome, carriedOut, fileOf};
+ghost use Rattle.calls.specs.FileSteps.{callsFrom, Ready, Taken, Open};
 use crate::admitted;
+use answer::ANSWER_SIZE;
 use envelope::Opened;
 use envelope::Piece;
 
 // The largest file.
 const FILE_LIMIT: usize = 32768;
 
-// The bytes of an answer.
-const ANSWER_SIZE: usize = 16;
-
 // What a file call returns: the number of its refusal, or its count of records.
 pub enum Filed {
-    Refusal(u8),
+    Refused(u8),
     Count(usize),
 }
 
 // The number of refusals 1 to 4 that applies first; 0 for none.
-fn lent_refusal<'a>(file: &'a [u8], reporters: &'a [u8], currencies: &'a [u8], book: &'a [u8]) -> u8
-    ensures { λ r. ⌜ r ≡ lentRefusal (now (reporters .entry)) (now (currencies .entry)) (now (file .entry)) (soundLedger (now (book .entry))) ⌝ }
+fn lent_refusal<'a>(
+    file: &'a [u8],
+    reporters: &'a [u8],
+    currencies: &'a [u8],
+    ledger: &'a [u8],
+) -> u8
+    ensures { λ r. ⌜ r ≡ lentRefusal (now (reporters .entry)) (now (currencies .entry)) (now (file .entry)) (soundLedger (now (ledger .entry))) ⌝ }
 {
     if FILE_LIMIT < file.len() {
         return 1;
@@ -33,7 +38,7 @@ fn lent_refusal<'a>(file: &'a [u8], reporters: &'a [u8], currencies: &'a [u8], b
     if !tables::currencies_ok(currencies) {
         return 3;
     }
-    if !ledger::sound_ledger(book) {
+    if !ledger::sound_ledger(ledger) {
         return 4;
     }
     0
@@ -43,22 +48,22 @@ fn lent_refusal<'a>(file: &'a [u8], reporters: &'a [u8], currencies: &'a [u8], b
 fn take_record<'a>(
     reporters: &'a [u8],
     currencies: &'a [u8],
-    book: &mut [u8],
-    from: &'a [u8],
+    ledger: &mut [u8],
+    sender: &'a [u8],
     body: &'a [u8],
     at: usize,
     answers: &mut [u8],
     k: usize,
 ) -> usize
-    requires { ⌜ Ready (now reporters) (now currencies) (now from) (now body) at k (now book) (now answers) ⌝ }
-    ensures { λ r. ⌜ Taken (now (reporters .entry)) (now (currencies .entry)) (now (from .entry)) (now (body .entry)) at k (now (book .entry))
-        (now (answers .entry)) r (now (book .exit)) (now (answers .exit)) ⌝ }
+    requires { ⌜ Ready (now reporters) (now currencies) (now sender) (now body) at k (now ledger) (now answers) ⌝ }
+    ensures { λ r. ⌜ Taken (now (reporters .entry)) (now (currencies .entry)) (now (sender .entry)) (now (body .entry)) at k (now (ledger .entry))
+        (now (answers .entry)) r (now (ledger .exit)) (now (answers .exit)) ⌝ }
 {
     let Piece::EndsAt(next) = envelope::line_end(body, at) else {
         return at;
     };
     let end = next - 2;
-    let a = admitted(reporters, currencies, book, from, &body[at..end]);
+    let a = admitted(reporters, currencies, ledger, sender, &body[at..end]);
     answer::write(a, answers, k * ANSWER_SIZE);
     next
 }
@@ -67,19 +72,19 @@ fn take_record<'a>(
 fn take_records<'a>(
     reporters: &'a [u8],
     currencies: &'a [u8],
-    book: &mut [u8],
-    from: &'a [u8],
+    ledger: &mut [u8],
+    sender: &'a [u8],
     body: &'a [u8],
     answers: &mut [u8],
 ) -> usize
-    requires { ⌜ Open (now reporters) (now currencies) (now from) (now body) 0 0 (now book) (now answers) ⌝ }
-    ensures { λ r. ⌜ fileOutcome (Count r) (now (book .exit)) (now (answers .exit)) ≡ carriedOut (now (reporters .entry)) (now (currencies .entry))
-        (stands (callsFrom (now (from .entry)) (now (body .entry)) 0)) (now (book .entry)) (now (answers .entry)) ⌝ }
+    requires { ⌜ Open (now reporters) (now currencies) (now sender) (now body) 0 0 (now ledger) (now answers) ⌝ }
+    ensures { λ r. ⌜ fileOutcome (accepted r) (now (ledger .exit)) (now (answers .exit)) ≡ carriedOut (now (reporters .entry)) (now (currencies .entry))
+        (accepted (callsFrom (now (sender .entry)) (now (body .entry)) 0)) (now (ledger .entry)) (now (answers .entry)) ⌝ }
 {
     let mut at: usize = 0;
     let mut k: usize = 0;
     while at < body.len() {
-        at = take_record(reporters, currencies, book, from, body, at, answers, k);
+        at = take_record(reporters, currencies, ledger, sender, body, at, answers, k);
         k += 1;
     }
     k
@@ -87,7 +92,7 @@ fn take_records<'a>(
 
 // The number of the refusal that opening a file gave.
 fn refusal_in(opened: Opened) -> u8
-    ensures { λ r. ⌜ r ≡ refusalIn opened ⌝ }
+    ensures { λ r. ⌜ r ≡ refusalIn (openedAs opened) ⌝ }
 {
     match opened {
         Opened::Refused(n) => n,
@@ -100,33 +105,33 @@ pub fn file_call<'a>(
     file: &'a [u8],
     reporters: &'a [u8],
     currencies: &'a [u8],
-    book: &mut [u8],
+    ledger: &mut [u8],
     answers: &mut [u8],
 ) -> Filed
-    ensures { λ r. ⌜ fileOutcome r (now (book .exit)) (now (answers .exit)) ≡ fileOf (now (reporters .entry)) (now (currencies .entry))
-        (now (file .entry)) (now (book .entry)) (now (answers .entry)) ⌝ }
+    ensures { λ r. ⌜ fileOutcome (filedAs r) (now (ledger .exit)) (now (answers .exit)) ≡ fileOf (now (reporters .entry)) (now (currencies .entry))
+        (now (file .entry)) (now (ledger .entry)) (now (answers .entry)) ⌝ }
 {
-    let n = lent_refusal(file, reporters, currencies, book);
+    let n = lent_refusal(file, reporters, currencies, ledger);
     if n != 0 {
-        return Filed::Refusal(n);
+        return Filed::Refused(n);
     }
     let opened = envelope::open_report(file);
     let Opened::Report(l) = opened else {
-        return Filed::Refusal(refusal_in(opened));
+        return Filed::Refused(refusal_in(opened));
     };
     if answers.len() < l.records * ANSWER_SIZE {
-        return Filed::Refusal(12);
+        return Filed::Refused(12);
     }
-    let sender = l.sender;
+    let sender_start = l.sender;
     let sender_end = l.sender_end;
     let first = l.first;
     let end = l.end;
-    let from = &file[sender..sender_end];
+    let sender = &file[sender_start..sender_end];
     Filed::Count(take_records(
         reporters,
         currencies,
-        book,
-        from,
+        ledger,
+        sender,
         &file[first..end],
         answers,
     ))

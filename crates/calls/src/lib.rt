@@ -11,8 +11,8 @@ ghost use Rattle.ledger.specs.Sound.{bankCount, soundLedger};
 ghost use Rattle.calls.specs.Call.{recordLimit, noReporter, noRow, failedOf, recordForm, refusalOf, called};
 ghost use Rattle.calls.specs.Call.{answerOf, bookedAs, stepAnswer, stepCompartment};
 ghost use Rattle.calls.specs.Rules.{rules};
-ghost use Rattle.calls.specs.Reply.{outcome};
-ghost use Rattle.calls.specs.declared.Reply.the-variants.{Answered};
+ghost use Rattle.calls.specs.Replied.{outcome};
+ghost use Rattle.calls.specs.declared.Replied.the-variants.{Answered};
 use answer::Answer;
 use decimal::Decimal;
 use failures::Failures;
@@ -32,28 +32,28 @@ const NO_REPORTER: usize = 255;
 const NO_ROW: usize = 65535;
 
 // What a call returns: the number of its refusal, or its answer.
-pub enum Reply {
+pub enum Replied {
     Refused(u8),
     Answered(Answer),
 }
 
 // Whether a record is at most 32,768 bytes, without CR, LF or apostrophe.
-fn is_record(s: &[u8]) -> bool
-    ensures { λ r. ⌜ r ≡ recordForm (now (s .entry)) ⌝ }
+fn is_record(record: &[u8]) -> bool
+    ensures { λ r. ⌜ r ≡ recordForm (now («record» .entry)) ⌝ }
 {
-    s.len() <= RECORD_LIMIT && text::all(Class::RecordByte, s)
+    record.len() <= RECORD_LIMIT && text::all(Class::RecordByte, record)
 }
 
 // The number by which a call is refused, the first that applies; 0 for none.
 pub fn refusal<'a>(
     reporters: &'a [u8],
     currencies: &'a [u8],
-    book: &'a [u8],
-    from: &'a [u8],
-    s: &'a [u8],
+    ledger: &'a [u8],
+    sender: &'a [u8],
+    record: &'a [u8],
 ) -> u8
-    ensures { λ r. ⌜ r ≡ refusalOf (now (reporters .entry)) (now (currencies .entry)) (called (now (from .entry)) (now (s .entry)))
-        (soundLedger (now (book .entry))) ⌝ }
+    ensures { λ r. ⌜ r ≡ refusalOf (now (reporters .entry)) (now (currencies .entry)) (called (now (sender .entry)) (now («record» .entry)))
+        (soundLedger (now (ledger .entry))) ⌝ }
 {
     if !tables::reporters_ok(reporters) {
         return 2;
@@ -61,22 +61,22 @@ pub fn refusal<'a>(
     if !tables::currencies_ok(currencies) {
         return 3;
     }
-    if !ledger::sound_ledger(book) {
+    if !ledger::sound_ledger(ledger) {
         return 4;
     }
-    if !identifier::is_name(from, 8) {
+    if !identifier::is_name(sender, 8) {
         return 13;
     }
-    if !is_record(s) {
+    if !is_record(record) {
         return 14;
     }
     0
 }
 
 // The answer to a record with these failures, for a reporter's row, booked in a new row.
-fn answer_of(failed: Failures, row: usize, new: usize, s: &[u8]) -> Answer
-    requires { ⌜ (row < 256) × (new < 65536) × (length (now s) ≤ recordLimit) ⌝ }
-    ensures { λ r. ⌜ r ≡ answerOf failed row new (now (s .entry)) ⌝ }
+fn answer_of(failed: Failures, row: usize, new: usize, record: &[u8]) -> Answer
+    requires { ⌜ (row < 256) × (new < 65536) × (length (now «record») ≤ recordLimit) ⌝ }
+    ensures { λ r. ⌜ r ≡ answerOf failed row new (now («record» .entry)) ⌝ }
 {
     Answer {
         failed: failed.bits,
@@ -84,7 +84,7 @@ fn answer_of(failed: Failures, row: usize, new: usize, s: &[u8]) -> Answer
         row: row as u8,
         status: checks::status(failed),
         booked: new as u16,
-        length: s.len() as u16,
+        length: record.len() as u16,
     }
 }
 
@@ -99,13 +99,19 @@ fn quantity(f22: &[u8]) -> u64
 }
 
 // Books a record that has no failure in its bank's compartment.
-fn book_record<'a>(c: &mut [u8], free: usize, named: usize, s: &'a [u8], stops: &'a [usize; 39])
-    requires { ⌜ now stops ≡ stopsOf (now s) ⌝ }
-    ensures { λ r. ⌜ now (c .exit) ≡ bookedAs free named (now (s .entry)) (now (c .entry)) ⌝ }
+fn book_record<'a>(
+    c: &mut [u8],
+    free: usize,
+    named: usize,
+    record: &'a [u8],
+    stops: &'a [usize; 39],
+)
+    requires { ⌜ now stops ≡ stopsOf (now «record») ⌝ }
+    ensures { λ r. ⌜ now (c .exit) ≡ bookedAs free named (now («record» .entry)) (now (c .entry)) ⌝ }
 {
-    let side = fields::letter_of(part(s, stops, 7));
-    let q = quantity(part(s, stops, 22));
-    booking::book(c, free, part(s, stops, 39), q, side, named);
+    let side = fields::letter_of(part(record, stops, 7));
+    let q = quantity(part(record, stops, 22));
+    booking::book(c, free, part(record, stops, 39), q, side, named);
 }
 
 // The one step that judges places 7 to 63 and books. It is lent the compartment of the record's bank, and nothing of the others.
@@ -114,35 +120,35 @@ fn step<'a>(
     reporters: &'a [u8],
     currencies: &'a [u8],
     row: usize,
-    s: &'a [u8],
+    record: &'a [u8],
     stops: &'a [usize; 39],
 ) -> Answer
-    requires { ⌜ (row < 256) × (length (now s) ≤ recordLimit) × (now stops ≡ stopsOf (now s)) × (currenciesOk (now currencies) ≡ true) ⌝ }
-    ensures { λ r. ⌜ r ≡ stepAnswer (now (reporters .entry)) (now (currencies .entry)) row (now (s .entry)) (now (c .entry)) ⌝ }
-    ensures { λ r. ⌜ now (c .exit) ≡ stepCompartment (now (reporters .entry)) (now (currencies .entry)) row (now (s .entry)) (now (c .entry)) ⌝ }
+    requires { ⌜ (row < 256) × (length (now «record») ≤ recordLimit) × (now stops ≡ stopsOf (now «record»)) × (currenciesOk (now currencies) ≡ true) ⌝ }
+    ensures { λ r. ⌜ r ≡ stepAnswer (now (reporters .entry)) (now (currencies .entry)) row (now («record» .entry)) (now (c .entry)) ⌝ }
+    ensures { λ r. ⌜ now (c .exit) ≡ stepCompartment (now (reporters .entry)) (now (currencies .entry)) row (now («record» .entry)) (now (c .entry)) ⌝ }
 {
-    let judged = checks::judge(reporters, currencies, row, s, stops);
+    let judged = checks::judge(reporters, currencies, row, record, stops);
     if judged.bits != 0 {
-        return answer_of(judged, row, NO_ROW, s);
+        return answer_of(judged, row, NO_ROW, record);
     }
-    let found = checks::judge_booking(c, part(s, stops, 16), part(s, stops, 39));
+    let found = checks::judge_booking(c, part(record, stops, 16), part(record, stops, 39));
     let failed = found.failed;
     if failed.bits != 0 {
-        return answer_of(failed, row, NO_ROW, s);
+        return answer_of(failed, row, NO_ROW, record);
     }
     let free = found.free;
-    book_record(c, free, found.named, s, stops);
-    answer_of(failed, row, free, s)
+    book_record(c, free, found.named, record, stops);
+    answer_of(failed, row, free, record)
 }
 
 // The answer to a record that passes for no bank.
-fn stranger(checked: Checked, s: &[u8]) -> Answer
-    requires { ⌜ length (now s) ≤ recordLimit ⌝ }
-    ensures { λ r. ⌜ r ≡ answerOf (failedOf checked) noReporter noRow (now (s .entry)) ⌝ }
+fn stranger(checked: Checked, record: &[u8]) -> Answer
+    requires { ⌜ length (now «record») ≤ recordLimit ⌝ }
+    ensures { λ r. ⌜ r ≡ answerOf (failedOf checked) noReporter noRow (now («record» .entry)) ⌝ }
 {
     match checked {
-        Checked::Failed(failed) => answer_of(failed, NO_REPORTER, NO_ROW, s),
-        Checked::Passed(_) => answer_of(Failures::none(), NO_REPORTER, NO_ROW, s),
+        Checked::Failed(failed) => answer_of(failed, NO_REPORTER, NO_ROW, record),
+        Checked::Passed(_) => answer_of(Failures::none(), NO_REPORTER, NO_ROW, record),
     }
 }
 
@@ -150,45 +156,52 @@ fn stranger(checked: Checked, s: &[u8]) -> Answer
 pub(crate) fn admitted<'a>(
     reporters: &'a [u8],
     currencies: &'a [u8],
-    book: &mut [u8],
-    from: &'a [u8],
-    s: &'a [u8],
+    ledger: &mut [u8],
+    sender: &'a [u8],
+    record: &'a [u8],
 ) -> Answer
-    requires { ⌜ refusalOf (now reporters) (now currencies) (called (now from) (now s)) (soundLedger (now book)) ≡ 0 ⌝ }
-    ensures { λ r. ⌜ outcome (Answered r) (now (book .exit)) ≡ single (rules (now (reporters .entry)) (now (currencies .entry)))
-        (called (now (from .entry)) (now (s .entry))) (now (book .entry)) ⌝ }
+    requires { ⌜ refusalOf (now reporters) (now currencies) (called (now sender) (now «record»)) (soundLedger (now ledger)) ≡ 0 ⌝ }
+    ensures { λ r. ⌜ outcome (Answered r) (now (ledger .exit)) ≡ single (rules (now (reporters .entry)) (now (currencies .entry)))
+        (called (now (sender .entry)) (now («record» .entry))) (now (ledger .entry)) ⌝ }
 {
-    let stops = fields::index(s);
+    let stops = fields::index(record);
     let whole = fields::is_whole(&stops);
     let checked = sender::check(
         reporters,
-        from,
+        sender,
         whole,
-        part(s, &stops, 1),
-        part(s, &stops, 2),
+        part(record, &stops, 1),
+        part(record, &stops, 2),
     );
     let Checked::Passed(row) = checked else {
-        return stranger(checked, s);
+        return stranger(checked, record);
     };
     let a = row * COMPARTMENT_SIZE;
     let e = a + COMPARTMENT_SIZE;
-    step(&mut book[a..e], reporters, currencies, row, s, &stops)
+    step(
+        &mut ledger[a..e],
+        reporters,
+        currencies,
+        row,
+        record,
+        &stops,
+    )
 }
 
 // The single-record call: refusals 2, 3, 4, 13, 14 in that order; then the answer to a call that has none.
 pub fn record_call<'a>(
     reporters: &'a [u8],
     currencies: &'a [u8],
-    book: &mut [u8],
-    from: &'a [u8],
-    s: &'a [u8],
-) -> Reply
-    ensures { λ r. ⌜ outcome r (now (book .exit)) ≡ single (rules (now (reporters .entry)) (now (currencies .entry)))
-        (called (now (from .entry)) (now (s .entry))) (now (book .entry)) ⌝ }
+    ledger: &mut [u8],
+    sender: &'a [u8],
+    record: &'a [u8],
+) -> Replied
+    ensures { λ r. ⌜ outcome r (now (ledger .exit)) ≡ single (rules (now (reporters .entry)) (now (currencies .entry)))
+        (called (now (sender .entry)) (now («record» .entry))) (now (ledger .entry)) ⌝ }
 {
-    let n = refusal(reporters, currencies, book, from, s);
+    let n = refusal(reporters, currencies, ledger, sender, record);
     if n != 0 {
-        return Reply::Refused(n);
+        return Replied::Refused(n);
     }
-    Reply::Answered(admitted(reporters, currencies, book, from, s))
+    Replied::Answered(admitted(reporters, currencies, ledger, sender, record))
 }

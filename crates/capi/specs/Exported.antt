@@ -1,55 +1,54 @@
--- What the functions exported for C and Rust return and leave: the calls of document 01, their replies as one number.
+-- What the functions exported for C and Rust return and leave: the calls of document 01 by one convention. A call returns 0 where it is carried out, else
+-- the number of its refusal, and then leaves every lent byte as it was; what it tells beside that stands in lent words.
 -- Assumes nothing.
-use Prim.Native.Nat.{ℕ, _+_}
+use Prim.Native.Nat.{ℕ}
 use mathlib.Core.Bool.{cond}
-use mathlib.Core.List.{List, _++_}
+use mathlib.Core.List.{List, [], _∷_, _++_}
 use lib.Dec.{ltb, eqb}
 use lib.ListN.{length, drop}
-use Rattle.frame.specs.Isolation.{Reply, refused, answer, Outcome, single}
+use Rattle.frame.specs.Reply.{Reply, refused, accepted}
+use Rattle.frame.specs.Isolation.{Outcome, single}
 use Rattle.answer.specs.Answer.{answerSize}
 use Rattle.fields.specs.declared.Place.{Place}
 use Rattle.fields.specs.Fields.{fieldPlace}
 use Rattle.calls.specs.Call.{called}
 use Rattle.calls.specs.Rules.{rules}
-use Rattle.calls.specs.declared.filing.Filed.{Filed}
-use Rattle.calls.specs.declared.filing.Filed.the-variants.{Refusal, Count}
-use Rattle.calls.specs.Filing.{fileOf}
+use Rattle.calls.specs.Filing.{FileOutcome, fileOf}
 
--- the number that is returned, and the lent ledger and buffer as the call leaves them
+-- the number that is returned, and the lent ledger, buffer and words as the call leaves them
 pub record Exported : Type 0 where
-  pub number : ℕ
+  pub reply : ℕ
   pub ledger : List ℕ
   pub buffer : List ℕ
+  pub words : List ℕ
 
-abbrev pub exported : ℕ → List ℕ → List ℕ → Exported
-exported n l a = record { number = n; ledger = l; buffer = a }
+abbrev pub exported : ℕ → List ℕ → List ℕ → List ℕ → Exported
+exported n l a ws = record { reply = n; ledger = l; buffer = a; words = ws }
 
--- a single-record call: 0 when answered, and the sixteen bytes at the buffer's start; else the number of its refusal, the last of them 12, a buffer under
--- sixteen bytes. A refusal leaves ledger and buffer as they were
+-- a single-record call: the answer's sixteen bytes at the buffer's start. The last of its refusals is 12, a buffer under sixteen bytes
 abbrev pub recordReply : Outcome (List ℕ) → List ℕ → List ℕ → Reply (List ℕ) → Exported
-recordReply o l a (refused n) = exported n l a
-recordReply o l a (answer w) = cond (ltb (length a) answerSize) (exported 12 l a) (exported 0 (o .ledger) (w ++ drop answerSize a))
+recordReply o l a (refused n) = exported n l a []
+recordReply o l a (accepted w) = cond (ltb (length a) answerSize) (exported 12 l a []) (exported 0 (o .ledger) (w ++ drop answerSize a) [])
 
 unfoldable pub recordExport : List ℕ → List ℕ → List ℕ → List ℕ → List ℕ → List ℕ → Exported
-recordExport reporters currencies sender message l a =
-    let o = single (rules reporters currencies) (called sender message) l in recordReply o l a (o .reply)
+recordExport reporters currencies sender «record» l a =
+    let o = single (rules reporters currencies) (called sender «record») l in recordReply o l a (o .reply)
 
--- a file call: its count of records, or 65,536 and the number of its refusal
-abbrev pub filedNumber : Filed → ℕ
-filedNumber (Count n) = n
-filedNumber (Refusal n) = 65536 + n
+-- a file call: its count of records in the lent word
+abbrev pub fileReply : FileOutcome → List ℕ → List ℕ → ℕ → Reply ℕ → Exported
+fileReply o l a word (refused n) = exported n l a (word ∷ [])
+fileReply o l a word (accepted count) = exported 0 (o .ledger) (o .buffer) (count ∷ [])
 
-unfoldable pub fileExport : List ℕ → List ℕ → List ℕ → List ℕ → List ℕ → Exported
-fileExport reporters currencies file l a =
-    let o = fileOf reporters currencies file l a in exported (filedNumber (o .filed)) (o .ledger) (o .buffer)
+unfoldable pub fileExport : List ℕ → List ℕ → List ℕ → List ℕ → List ℕ → ℕ → Exported
+fileExport reporters currencies file l a word = let o = fileOf reporters currencies file l a in fileReply o l a word (o .reply)
 
 -- the number of a call whose buffer is too short
 abbrev pub shortNumber : ℕ → ℕ
 shortNumber n = cond (eqb n 0) 12 n
 
--- the field view: where the field starts, and how long it is
+-- the field view, which is never refused: where the field starts is returned, and how long it is stands in the lent word
 abbrev pub fieldNumbers : ℕ → ℕ → Place
 fieldNumbers start length = record { start = start; length = length }
 
 abbrev pub fieldExport : List ℕ → ℕ → Place
-fieldExport s n = fieldPlace s n
+fieldExport «record» n = fieldPlace «record» n

@@ -1,89 +1,86 @@
-// The functions exported for C and Rust: a slice is a pointer and a length.
+// The functions exported for C and Rust: a slice is a pointer and a length. Each returns 0 where it is carried out, else the number of its refusal, and a
+// refused call writes nothing.
+ghost use mathlib.Core.List.{[], _∷_};
 ghost use mathlib.Core.Path.{_≡_};
 ghost use Rattle.ledger.specs.Sound.{soundLedger};
 ghost use Rattle.calls.specs.Call.{called, refusalOf};
 ghost use Rattle.capi.specs.Exported.{exported, recordExport, fileExport, shortNumber, fieldNumbers, fieldExport};
-use calls::Reply;
+use answer::ANSWER_SIZE;
+use calls::Replied;
 use calls::filing::Filed;
+use text::wide;
 
-const ANSWER_SIZE: usize = 16;
-
+// The refusal of an answer buffer that is too short.
 const SHORT_BUFFER: u64 = 12;
-
-// What is added to the number of a refused file.
-const REFUSED_FILE: u64 = 65536;
-
-// A refusal's number as a wide one.
-fn wide(n: u8) -> u64
-    ensures { λ r. ⌜ r ≡ n ⌝ }
-{
-    n as u64
-}
 
 // The number of a call whose buffer is too short: its own refusal, else 12. Nothing is booked.
 fn short_call<'a>(
     reporters: &'a [u8],
     currencies: &'a [u8],
-    book: &'a [u8],
-    from: &'a [u8],
-    s: &'a [u8],
+    ledger: &'a [u8],
+    sender: &'a [u8],
+    record: &'a [u8],
 ) -> u64
-    ensures { λ r. ⌜ r ≡ shortNumber (refusalOf (now (reporters .entry)) (now (currencies .entry)) (called (now (from .entry)) (now (s .entry)))
-        (soundLedger (now (book .entry)))) ⌝ }
+    ensures { λ r. ⌜ r ≡ shortNumber (refusalOf (now (reporters .entry)) (now (currencies .entry)) (called (now (sender .entry)) (now («record» .entry)))
+        (soundLedger (now (ledger .entry)))) ⌝ }
 {
-    let n = calls::refusal(reporters, currencies, book, from, s);
+    let n = calls::refusal(reporters, currencies, ledger, sender, record);
     if n != 0 { wide(n) } else { SHORT_BUFFER }
 }
 
-// The single-record call: 0 and the answer's sixteen bytes, or the number of the refusal.
+// The single-record call: the answer's sixteen bytes at the start of the answer buffer.
 #[no_mangle]
 pub extern "C" fn roselhanda_record<'a>(
     reporters: &'a [u8],
     currencies: &'a [u8],
-    book: &mut [u8],
-    from: &'a [u8],
-    s: &'a [u8],
-    out: &mut [u8],
+    ledger: &mut [u8],
+    sender: &'a [u8],
+    record: &'a [u8],
+    answer: &mut [u8],
 ) -> u64
-    ensures { λ r. ⌜ exported r (now (book .exit)) (now (out .exit)) ≡ recordExport (now (reporters .entry)) (now (currencies .entry))
-        (now (from .entry)) (now (s .entry)) (now (book .entry)) (now (out .entry)) ⌝ }
+    ensures { λ r. ⌜ exported r (now (ledger .exit)) (now (answer .exit)) [] ≡ recordExport (now (reporters .entry)) (now (currencies .entry))
+        (now (sender .entry)) (now («record» .entry)) (now (ledger .entry)) (now (answer .entry)) ⌝ }
 {
-    if out.len() < ANSWER_SIZE {
-        return short_call(reporters, currencies, book, from, s);
+    if answer.len() < ANSWER_SIZE {
+        return short_call(reporters, currencies, ledger, sender, record);
     }
-    match calls::record_call(reporters, currencies, book, from, s) {
-        Reply::Refused(n) => wide(n),
-        Reply::Answered(a) => {
-            answer::write(a, out, 0);
+    match calls::record_call(reporters, currencies, ledger, sender, record) {
+        Replied::Refused(n) => wide(n),
+        Replied::Answered(a) => {
+            answer::write(a, answer, 0);
             0
         }
     }
 }
 
-// The file call: the count of records, or 65,536 and the number of the refusal.
+// The file call: sixteen bytes a record from the start of the answer buffer, and in the lent word the count of records.
 #[no_mangle]
 pub extern "C" fn roselhanda_file<'a>(
     file: &'a [u8],
     reporters: &'a [u8],
     currencies: &'a [u8],
-    book: &mut [u8],
+    ledger: &mut [u8],
     answers: &mut [u8],
+    records: &mut u64,
 ) -> u64
-    ensures { λ r. ⌜ exported r (now (book .exit)) (now (answers .exit)) ≡ fileExport (now (reporters .entry)) (now (currencies .entry))
-        (now (file .entry)) (now (book .entry)) (now (answers .entry)) ⌝ }
+    ensures { λ r. ⌜ exported r (now (ledger .exit)) (now (answers .exit)) (now (records .exit) ∷ []) ≡ fileExport (now (reporters .entry))
+        (now (currencies .entry)) (now (file .entry)) (now (ledger .entry)) (now (answers .entry)) (now (records .entry)) ⌝ }
 {
-    match calls::filing::file_call(file, reporters, currencies, book, answers) {
-        Filed::Count(n) => n as u64,
-        Filed::Refusal(n) => REFUSED_FILE + wide(n),
+    match calls::filing::file_call(file, reporters, currencies, ledger, answers) {
+        Filed::Refused(n) => wide(n),
+        Filed::Count(n) => {
+            *records = n as u64;
+            0
+        }
     }
 }
 
-// The field view: where field n of the record starts, and in the lent number how long it is.
+// The field view: where field n of the record starts, and in the lent word how long it is.
 #[no_mangle]
-pub extern "C" fn roselhanda_field(s: &[u8], n: u64, length: &mut u64) -> u64
-    ensures { λ r. ⌜ fieldNumbers r (now (length .exit)) ≡ fieldExport (now (s .entry)) n ⌝ }
+pub extern "C" fn roselhanda_field(record: &[u8], n: u64, length: &mut u64) -> u64
+    ensures { λ r. ⌜ fieldNumbers r (now (length .exit)) ≡ fieldExport (now («record» .entry)) n ⌝ }
 {
-    let p = fields::field_place(s, n as usize);
+    let p = fields::field_place(record, n as usize);
     *length = p.length as u64;
     p.start as u64
 }

@@ -1,4 +1,3 @@
 pub mod RecordLaws
 pub mod PassedLaws
 pub mod VerdictLaws
-pub mod Worked

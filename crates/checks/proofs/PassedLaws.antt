@@ -27,7 +27,7 @@ use Rattle.terms.specs.Capacity.{capacityTests}
 use Rattle.terms.specs.Derivative.{derivativeTests}
 use Rattle.terms.specs.Marks.{markTests}
 use Rattle.checks.specs.declared.Booking.{Booking}
-use Rattle.checks.specs.Record.{clientOf, tradeOf, instrumentOf, termsBy, capacityOf, derivativeBy, underlyingOf, marksOf}
+use Rattle.checks.specs.Record.{clientGroup, tradeGroup, instrumentGroup, termsGroup, capacityGroup, derivativeGroup, underlyingGroup, marksGroup}
 use Rattle.checks.specs.Record.{recordTests, recordFailures}
 use Rattle.checks.specs.Booking.{namedRow, bookingTests, bookingOf}
 use Rattle.checks.proofs.RecordLaws.{underlying-length, record-length}
@@ -44,14 +44,14 @@ module _ (reporters : List ℕ) (money : List ℕ → Bool) (row : ℕ) (F : ℕ
 
   -- 18 passed: F7 is B or S
   pub side-passed : isSide (letter (F 7)) ≡ true
-  unfolding recordTests clientOf clientTests tradeOf tradeTests
+  unfolding recordTests clientGroup clientTests tradeGroup tradeTests
   side-passed = not-false _ (none 11)
 
   -- 60 passed: F39 is 1 to 16 capitals or digits
   pub number-passed : nameUpTo numberRoom (F 39) ≡ true
-  unfolding recordTests clientOf tradeOf instrumentOf termsBy capacityOf derivativeBy marksOf clientTests tradeTests instrumentTests termsTests
+  unfolding recordTests clientGroup tradeGroup instrumentGroup termsGroup capacityGroup derivativeGroup marksGroup clientTests tradeTests instrumentTests termsTests
       capacityTests derivativeTests markTests
-  number-passed = not-false _ (sym (behind (underlyingOf F) (marksOf F) 7 1 (underlying-length F)) ∙ none 53)
+  number-passed = not-false _ (sym (behind (underlyingGroup F) (marksGroup F) 7 1 (underlying-length F)) ∙ none 53)
 
 module _ (c f16 f39 : List ℕ) (passed : bookingOf c f16 f39 .failed .bits ≡ 0) where
   -- none of places 61 to 63 fails

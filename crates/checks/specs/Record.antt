@@ -15,48 +15,48 @@ use Rattle.terms.specs.Marks.{markTests}
 use Rattle.underlying.specs.Underlying.{underlyingTests}
 
 -- 7 to 17
-unfoldable pub clientOf : (ℕ → List ℕ) → List Bool
-clientOf F = clientTests (F 3) (F 4) (F 5) (F 6)
+unfoldable pub clientGroup : (ℕ → List ℕ) → List Bool
+clientGroup F = clientTests (F 3) (F 4) (F 5) (F 6)
 
 -- 18 to 24
-unfoldable pub tradeOf : (ℕ → List ℕ) → List Bool
-tradeOf F = tradeTests (F 7) (F 8) (F 9) (F 14) (F 15) (F 18) (F 19)
+unfoldable pub tradeGroup : (ℕ → List ℕ) → List Bool
+tradeGroup F = tradeTests (F 7) (F 8) (F 9) (F 14) (F 15) (F 18) (F 19)
 
 -- 25 to 30
-unfoldable pub instrumentOf : (ℕ → List ℕ) → List Bool
-instrumentOf F = instrumentTests (F 19) (F 20)
+unfoldable pub instrumentGroup : (ℕ → List ℕ) → List Bool
+instrumentGroup F = instrumentTests (F 19) (F 20)
 
 -- 31 to 41, of whether F21 and F24 are money
-unfoldable pub termsBy : Bool → Bool → (ℕ → List ℕ) → List Bool
-termsBy money21 money24 F = termsTests money21 money24 (F 21) (F 22) (F 23) (F 24) (F 25)
+unfoldable pub termsGroup : Bool → Bool → (ℕ → List ℕ) → List Bool
+termsGroup money21 money24 F = termsTests money21 money24 (F 21) (F 22) (F 23) (F 24) (F 25)
 
 -- 42 to 46, for a reporter's row
-unfoldable pub capacityOf : List ℕ → ℕ → (ℕ → List ℕ) → List Bool
-capacityOf reporters row F = capacityTests reporters row (F 3) (F 4) (F 18) (F 28)
+unfoldable pub capacityGroup : List ℕ → ℕ → (ℕ → List ℕ) → List Bool
+capacityGroup reporters row F = capacityTests reporters row (F 3) (F 4) (F 18) (F 28)
 
 -- 47 to 51, of whether F21 is money
-unfoldable pub derivativeBy : Bool → (ℕ → List ℕ) → List Bool
-derivativeBy money21 F = derivativeTests money21 (F 21) (F 29) (F 30) (F 32)
+unfoldable pub derivativeGroup : Bool → (ℕ → List ℕ) → List Bool
+derivativeGroup money21 F = derivativeTests money21 (F 21) (F 29) (F 30) (F 32)
 
 -- 52 to 58
-unfoldable pub underlyingOf : (ℕ → List ℕ) → List Bool
-underlyingOf F = underlyingTests (F 19) (F 21) (F 33)
+unfoldable pub underlyingGroup : (ℕ → List ℕ) → List Bool
+underlyingGroup F = underlyingTests (F 19) (F 21) (F 33)
 
 -- 59 and 60
-unfoldable pub marksOf : (ℕ → List ℕ) → List Bool
-marksOf F = markTests (F 38) (F 39)
+unfoldable pub marksGroup : (ℕ → List ℕ) → List Bool
+marksGroup F = markTests (F 38) (F 39)
 
 -- whether each of places 7 to 60 fails, for a record that passes the sender check for a reporter's row. Every place is judged
 unfoldable pub recordTests : List ℕ → (List ℕ → Bool) → ℕ → (ℕ → List ℕ) → List Bool
 recordTests reporters money row F =
-    clientOf F
-    ++ (tradeOf F
-    ++ (instrumentOf F
-    ++ (termsBy (money (F 21)) (money (F 24)) F
-    ++ (capacityOf reporters row F
-    ++ (derivativeBy (money (F 21)) F
-    ++ (underlyingOf F
-    ++ marksOf F))))))
+    clientGroup F
+    ++ (tradeGroup F
+    ++ (instrumentGroup F
+    ++ (termsGroup (money (F 21)) (money (F 24)) F
+    ++ (capacityGroup reporters row F
+    ++ (derivativeGroup (money (F 21)) F
+    ++ (underlyingGroup F
+    ++ marksGroup F))))))
 
 -- the set of those that fail
 unfoldable pub recordFailures : List ℕ → (List ℕ → Bool) → ℕ → (ℕ → List ℕ) → Failures

@@ -3,7 +3,8 @@ ghost use mathlib.Core.Path.{_≡_};
 ghost use Rattle.failures.specs.Failures.{addedFrom};
 ghost use Rattle.fields.specs.Fields.{fieldBy};
 ghost use Rattle.tables.specs.Currencies.{foundMoney};
-ghost use Rattle.checks.specs.Record.{clientOf, tradeOf, instrumentOf, termsBy, capacityOf, derivativeBy, underlyingOf, marksOf, recordFailures};
+ghost use Rattle.checks.specs.Record.{clientGroup, tradeGroup, instrumentGroup, termsGroup, capacityGroup, derivativeGroup};
+ghost use Rattle.checks.specs.Record.{underlyingGroup, marksGroup, recordFailures};
 ghost use Rattle.checks.specs.Booking.{namedRow, bookingOf};
 ghost use Rattle.checks.specs.Verdict.{statusOf};
 use failures::Failures;
@@ -18,39 +19,39 @@ pub struct Booking {
 }
 
 // The set with places 7 to 17 added.
-fn add_client<'a>(failed: Failures, s: &'a [u8], stops: &'a [usize; 39]) -> Failures
-    ensures { λ r. ⌜ r ≡ addedFrom failed 7 (clientOf (fieldBy (now (s .entry)) (now (stops .entry)))) ⌝ }
+fn add_client<'a>(failed: Failures, record: &'a [u8], stops: &'a [usize; 39]) -> Failures
+    ensures { λ r. ⌜ r ≡ addedFrom failed 7 (clientGroup (fieldBy (now («record» .entry)) (now (stops .entry)))) ⌝ }
 {
     let tests = client::judge(
-        part(s, stops, 3),
-        part(s, stops, 4),
-        part(s, stops, 5),
-        part(s, stops, 6),
+        part(record, stops, 3),
+        part(record, stops, 4),
+        part(record, stops, 5),
+        part(record, stops, 6),
     );
     failed.add_from(7, &tests)
 }
 
 // The set with places 18 to 24 added.
-fn add_trade<'a>(failed: Failures, s: &'a [u8], stops: &'a [usize; 39]) -> Failures
-    ensures { λ r. ⌜ r ≡ addedFrom failed 18 (tradeOf (fieldBy (now (s .entry)) (now (stops .entry)))) ⌝ }
+fn add_trade<'a>(failed: Failures, record: &'a [u8], stops: &'a [usize; 39]) -> Failures
+    ensures { λ r. ⌜ r ≡ addedFrom failed 18 (tradeGroup (fieldBy (now («record» .entry)) (now (stops .entry)))) ⌝ }
 {
     let tests = trade::judge_trade(
-        part(s, stops, 7),
-        part(s, stops, 8),
-        part(s, stops, 9),
-        part(s, stops, 14),
-        part(s, stops, 15),
-        part(s, stops, 18),
-        part(s, stops, 19),
+        part(record, stops, 7),
+        part(record, stops, 8),
+        part(record, stops, 9),
+        part(record, stops, 14),
+        part(record, stops, 15),
+        part(record, stops, 18),
+        part(record, stops, 19),
     );
     failed.add_from(18, &tests)
 }
 
 // The set with places 25 to 30 added.
-fn add_instrument<'a>(failed: Failures, s: &'a [u8], stops: &'a [usize; 39]) -> Failures
-    ensures { λ r. ⌜ r ≡ addedFrom failed 25 (instrumentOf (fieldBy (now (s .entry)) (now (stops .entry)))) ⌝ }
+fn add_instrument<'a>(failed: Failures, record: &'a [u8], stops: &'a [usize; 39]) -> Failures
+    ensures { λ r. ⌜ r ≡ addedFrom failed 25 (instrumentGroup (fieldBy (now («record» .entry)) (now (stops .entry)))) ⌝ }
 {
-    let tests = trade::judge_instrument(part(s, stops, 19), part(s, stops, 20));
+    let tests = trade::judge_instrument(part(record, stops, 19), part(record, stops, 20));
     failed.add_from(25, &tests)
 }
 
@@ -59,19 +60,19 @@ fn add_terms<'a>(
     failed: Failures,
     money21: bool,
     money24: bool,
-    s: &'a [u8],
+    record: &'a [u8],
     stops: &'a [usize; 39],
 ) -> Failures
-    ensures { λ r. ⌜ r ≡ addedFrom failed 31 (termsBy money21 money24 (fieldBy (now (s .entry)) (now (stops .entry)))) ⌝ }
+    ensures { λ r. ⌜ r ≡ addedFrom failed 31 (termsGroup money21 money24 (fieldBy (now («record» .entry)) (now (stops .entry)))) ⌝ }
 {
     let tests = terms::judge_terms(
         money21,
         money24,
-        part(s, stops, 21),
-        part(s, stops, 22),
-        part(s, stops, 23),
-        part(s, stops, 24),
-        part(s, stops, 25),
+        part(record, stops, 21),
+        part(record, stops, 22),
+        part(record, stops, 23),
+        part(record, stops, 24),
+        part(record, stops, 25),
     );
     failed.add_from(31, &tests)
 }
@@ -81,18 +82,18 @@ fn add_capacity<'a>(
     failed: Failures,
     reporters: &'a [u8],
     row: usize,
-    s: &'a [u8],
+    record: &'a [u8],
     stops: &'a [usize; 39],
 ) -> Failures
-    ensures { λ r. ⌜ r ≡ addedFrom failed 42 (capacityOf (now (reporters .entry)) row (fieldBy (now (s .entry)) (now (stops .entry)))) ⌝ }
+    ensures { λ r. ⌜ r ≡ addedFrom failed 42 (capacityGroup (now (reporters .entry)) row (fieldBy (now («record» .entry)) (now (stops .entry)))) ⌝ }
 {
     let tests = terms::judge_capacity(
         reporters,
         row,
-        part(s, stops, 3),
-        part(s, stops, 4),
-        part(s, stops, 18),
-        part(s, stops, 28),
+        part(record, stops, 3),
+        part(record, stops, 4),
+        part(record, stops, 18),
+        part(record, stops, 28),
     );
     failed.add_from(42, &tests)
 }
@@ -101,34 +102,38 @@ fn add_capacity<'a>(
 fn add_derivative<'a>(
     failed: Failures,
     money21: bool,
-    s: &'a [u8],
+    record: &'a [u8],
     stops: &'a [usize; 39],
 ) -> Failures
-    ensures { λ r. ⌜ r ≡ addedFrom failed 47 (derivativeBy money21 (fieldBy (now (s .entry)) (now (stops .entry)))) ⌝ }
+    ensures { λ r. ⌜ r ≡ addedFrom failed 47 (derivativeGroup money21 (fieldBy (now («record» .entry)) (now (stops .entry)))) ⌝ }
 {
     let tests = terms::judge_derivative(
         money21,
-        part(s, stops, 21),
-        part(s, stops, 29),
-        part(s, stops, 30),
-        part(s, stops, 32),
+        part(record, stops, 21),
+        part(record, stops, 29),
+        part(record, stops, 30),
+        part(record, stops, 32),
     );
     failed.add_from(47, &tests)
 }
 
 // The set with places 52 to 58 added.
-fn add_underlying<'a>(failed: Failures, s: &'a [u8], stops: &'a [usize; 39]) -> Failures
-    ensures { λ r. ⌜ r ≡ addedFrom failed 52 (underlyingOf (fieldBy (now (s .entry)) (now (stops .entry)))) ⌝ }
+fn add_underlying<'a>(failed: Failures, record: &'a [u8], stops: &'a [usize; 39]) -> Failures
+    ensures { λ r. ⌜ r ≡ addedFrom failed 52 (underlyingGroup (fieldBy (now («record» .entry)) (now (stops .entry)))) ⌝ }
 {
-    let tests = underlying::judge(part(s, stops, 19), part(s, stops, 21), part(s, stops, 33));
+    let tests = underlying::judge(
+        part(record, stops, 19),
+        part(record, stops, 21),
+        part(record, stops, 33),
+    );
     failed.add_from(52, &tests)
 }
 
 // The set with places 59 and 60 added.
-fn add_marks<'a>(failed: Failures, s: &'a [u8], stops: &'a [usize; 39]) -> Failures
-    ensures { λ r. ⌜ r ≡ addedFrom failed 59 (marksOf (fieldBy (now (s .entry)) (now (stops .entry)))) ⌝ }
+fn add_marks<'a>(failed: Failures, record: &'a [u8], stops: &'a [usize; 39]) -> Failures
+    ensures { λ r. ⌜ r ≡ addedFrom failed 59 (marksGroup (fieldBy (now («record» .entry)) (now (stops .entry)))) ⌝ }
 {
-    let tests = terms::judge_marks(part(s, stops, 38), part(s, stops, 39));
+    let tests = terms::judge_marks(part(record, stops, 38), part(record, stops, 39));
     failed.add_from(59, &tests)
 }
 
@@ -137,21 +142,21 @@ pub fn judge<'a>(
     reporters: &'a [u8],
     currencies: &'a [u8],
     row: usize,
-    s: &'a [u8],
+    record: &'a [u8],
     stops: &'a [usize; 39],
 ) -> Failures
-    ensures { λ r. ⌜ r ≡ recordFailures (now (reporters .entry)) (foundMoney (now (currencies .entry))) row (fieldBy (now (s .entry)) (now (stops .entry))) ⌝ }
+    ensures { λ r. ⌜ r ≡ recordFailures (now (reporters .entry)) (foundMoney (now (currencies .entry))) row (fieldBy (now («record» .entry)) (now (stops .entry))) ⌝ }
 {
-    let money21 = tables::is_money(currencies, part(s, stops, 21));
-    let money24 = tables::is_money(currencies, part(s, stops, 24));
-    let f = add_client(Failures::none(), s, stops);
-    let f = add_trade(f, s, stops);
-    let f = add_instrument(f, s, stops);
-    let f = add_terms(f, money21, money24, s, stops);
-    let f = add_capacity(f, reporters, row, s, stops);
-    let f = add_derivative(f, money21, s, stops);
-    let f = add_underlying(f, s, stops);
-    add_marks(f, s, stops)
+    let money21 = tables::is_money(currencies, part(record, stops, 21));
+    let money24 = tables::is_money(currencies, part(record, stops, 24));
+    let f = add_client(Failures::none(), record, stops);
+    let f = add_trade(f, record, stops);
+    let f = add_instrument(f, record, stops);
+    let f = add_terms(f, money21, money24, record, stops);
+    let f = add_capacity(f, reporters, row, record, stops);
+    let f = add_derivative(f, money21, record, stops);
+    let f = add_underlying(f, record, stops);
+    add_marks(f, record, stops)
 }
 
 // The live row that F16 names, 64 for none.

@@ -19,7 +19,7 @@ fn same_party<'a>(kind: &'a [u8], f: &'a [u8], g: &'a [u8]) -> bool
     if fields::letter_of(kind) == b'S' {
         identifier::same_address(f, g)
     } else {
-        text::equal(f, g)
+        text::same(f, g)
     }
 }
 
@@ -44,6 +44,6 @@ pub fn judge<'a>(f3: &'a [u8], f4: &'a [u8], f5: &'a [u8], f6: &'a [u8]) -> [boo
         !blank5 & !((k5 == b'B') | (k5 == b'S') | (k5 == b'N')), // 14 9051
         blank5 & !blank6 | !blank5 & blank6, // 15 9060
         !blank6 & (lacks_form(f5, f6) | (k5 == b'N') & (fields::first_byte(f6) == b'W')), // 16 9061
-        !blank5 & text::equal(f3, f5) & same_party(f3, f4, f6), // 17 9062
+        !blank5 & text::same(f3, f5) & same_party(f3, f4, f6), // 17 9062
     ]
 }

@@ -19,7 +19,7 @@ use Rattle.text.specs.Bytes.{all, positionOf}
 use Rattle.frame.proofs.BoolLaws.{and-left, and-right}
 use Rattle.text.proofs.ByteLaws.{digit-high, take-rest}
 use Rattle.text.proofs.NumberLaws.{digit-more, below-power}
-use Rattle.decimal.specs.Decimal.{numberAfter, number, digitsUpTo, wholeOnly, wholeAndPart, decimalAt, decimalOf, valueOf}
+use Rattle.decimal.specs.Decimal.{digitsValueAfter, digitsValue, digitsUpTo, wholeOnly, wholeAndPart, decimalAt, decimalOf, valueOf}
 use Rattle.decimal.specs.declared.Decimal.{Decimal}
 use Rattle.decimal.specs.declared.Decimal.the-variants.{Value, Malformed}
 
@@ -31,17 +31,17 @@ pub more-fits : (v i : ℕ) {d : ℕ} → v < 10 ^ i → i < 19 → d < 10 → v
 more-fits v i {d} h l k = fits-word (digit-more 10 v d i h k) (rw add-one l)
 
 -- what a loop over the digits knows
-module _ (s : List ℕ) (v i : ℕ) (e : number s ≡ numberAfter v (drop i s)) where
-  pub number-go : {d : ℕ} → i < length s → d ≡ getD s i 0 - 48 → number s ≡ numberAfter (v * 10 + d) (drop (i + 1) s)
-  unfolding numberAfter
+module _ (s : List ℕ) (v i : ℕ) (e : digitsValue s ≡ digitsValueAfter v (drop i s)) where
+  pub number-go : {d : ℕ} → i < length s → d ≡ getD s i 0 - 48 → digitsValue s ≡ digitsValueAfter (v * 10 + d) (drop (i + 1) s)
+  unfolding digitsValueAfter
   number-go h q = e ∙ rw (add-one, drop-cons s i 0, q) refl
 
-  pub number-end : length s ≤ i → v ≡ number s
-  unfolding numberAfter
+  pub number-end : length s ≤ i → v ≡ digitsValue s
+  unfolding digitsValueAfter
   number-end h = sym (e ∙ rw (drop-of-length-le s h) refl)
 
-pub number-below : (s : List ℕ) (v k : ℕ) → v < 10 ^ k → all isDigit s ≡ true → numberAfter v s < 10 ^ (k + length s)
-unfolding numberAfter all
+pub number-below : (s : List ℕ) (v k : ℕ) → v < 10 ^ k → all isDigit s ≡ true → digitsValueAfter v s < 10 ^ (k + length s)
+unfolding digitsValueAfter all
 number-below [] v k h e = rw add-zero h
 number-below (b ∷ bs) v k h e =
     let p = digit-high b (and-left _ _ e) in
@@ -58,21 +58,21 @@ unfolding digitsUpTo
 upto-length k s e = leb-true _ _ (and-right (leb 1 (length s)) _ (and-left _ _ e))
 
 -- up to nineteen digits, zeros at their end included, fit a word
-pub scaled-below : (s : List ℕ) (n : ℕ) → all isDigit s ≡ true → number s * 10 ^ n < 10 ^ (length s + n)
+pub scaled-below : (s : List ℕ) (n : ℕ) → all isDigit s ≡ true → digitsValue s * 10 ^ n < 10 ^ (length s + n)
 scaled-below s n e =
-    let p : number s < 10 ^ (0 + length s) = number-below s 0 0 (lit< tt) e in
+    let p : digitsValue s < 10 ^ (0 + length s) = number-below s 0 0 (lit< tt) e in
     rw pow-add (mul-lt-mul-of-pos-right (rw zero-add at p) (one-le-pow n 10 (lit< tt)))
 
 -- the whole digits and those after the comma
 pub both-below : (w f : List ℕ) (n : ℕ) → all isDigit w ≡ true → all isDigit f ≡ true → length f ≤ n
-    → number w * 10 ^ n + number f * 10 ^ (n - length f) < 10 ^ (length w + n)
+    → digitsValue w * 10 ^ n + digitsValue f * 10 ^ (n - length f) < 10 ^ (length w + n)
 both-below w f n e g l =
-    let p : number w < 10 ^ (0 + length w) = number-below w 0 0 (lit< tt) e in
-    let q : number f * 10 ^ (n - length f) < 10 ^ (length f + (n - length f)) = scaled-below f (n - length f) g in
+    let p : digitsValue w < 10 ^ (0 + length w) = number-below w 0 0 (lit< tt) e in
+    let q : digitsValue f * 10 ^ (n - length f) < 10 ^ (length f + (n - length f)) = scaled-below f (n - length f) g in
     rw pow-add (digits-lt (rw zero-add at p) (rw (add-sub-of-le l) at q))
 
 -- the cases of the form
-pub whole-yes : (m n : ℕ) (w : List ℕ) {r : ℕ} → digitsUpTo m w ≡ true → r ≡ number w * 10 ^ n → Value r ≡ wholeOnly m n w
+pub whole-yes : (m n : ℕ) (w : List ℕ) {r : ℕ} → digitsUpTo m w ≡ true → r ≡ digitsValue w * 10 ^ n → Value r ≡ wholeOnly m n w
 unfolding wholeOnly
 whole-yes m n w e q = rw (e, q) refl
 
@@ -80,7 +80,7 @@ pub whole-no : (m n : ℕ) (w : List ℕ) → digitsUpTo m w ≡ false → Malfo
 unfolding wholeOnly
 whole-no m n w e = rw e refl
 
-pub both-yes : (m n : ℕ) (w f : List ℕ) {r q : ℕ} → digitsUpTo m w && digitsUpTo n f ≡ true → r ≡ number w * 10 ^ n → q ≡ number f * 10 ^ (n - length f)
+pub both-yes : (m n : ℕ) (w f : List ℕ) {r q : ℕ} → digitsUpTo m w && digitsUpTo n f ≡ true → r ≡ digitsValue w * 10 ^ n → q ≡ digitsValue f * 10 ^ (n - length f)
     → Value (r + q) ≡ wholeAndPart m n w f
 unfolding wholeAndPart
 both-yes m n w f e p q = rw (e, p, q) refl
@@ -110,7 +110,7 @@ whole-below : (m n : ℕ) (w : List ℕ) → valueOf (wholeOnly m n w) < 10 ^ (m
 unfolding wholeOnly
 whole-below m n w = go (digitsUpTo m w) refl
   where
-    go : (b : Bool) → digitsUpTo m w ≡ b → valueOf (cond b (Value (number w * 10 ^ n)) Malformed) < 10 ^ (m + n)
+    go : (b : Bool) → digitsUpTo m w ≡ b → valueOf (cond b (Value (digitsValue w * 10 ^ n)) Malformed) < 10 ^ (m + n)
     go true e = digits-below m n (length w) (scaled-below w n (upto-digits m w e)) (upto-length m w e)
     go false e = one-le-pow (m + n) 10 (lit< tt)
 
@@ -119,7 +119,7 @@ unfolding wholeAndPart
 part-below m n w f = go (digitsUpTo m w) (digitsUpTo n f) refl refl
   where
     go : (a b : Bool) → digitsUpTo m w ≡ a → digitsUpTo n f ≡ b
-        → valueOf (cond (a && b) (Value (number w * 10 ^ n + number f * 10 ^ (n - length f))) Malformed) < 10 ^ (m + n)
+        → valueOf (cond (a && b) (Value (digitsValue w * 10 ^ n + digitsValue f * 10 ^ (n - length f))) Malformed) < 10 ^ (m + n)
     go true true p q =
         digits-below m n (length w) (both-below w f n (upto-digits m w p) (upto-digits n f q) (upto-length n f q)) (upto-length m w p)
     go true false p q = one-le-pow (m + n) 10 (lit< tt)

@@ -7,10 +7,10 @@ use Rattle.text.specs.Bytes.{all, positionOf}
 use Rattle.text.specs.Text.{bytes}
 use Rattle.decimal.specs.declared.Decimal.{Decimal}
 use Rattle.decimal.specs.declared.Decimal.the-variants.{Value, Malformed}
-use Rattle.decimal.specs.Decimal.{decimalOf, decimalAt, wholeOnly, wholeAndPart, digitsUpTo, numberAfter}
+use Rattle.decimal.specs.Decimal.{decimalOf, decimalAt, wholeOnly, wholeAndPart, digitsUpTo, digitsValueAfter}
 
 pub worked :
     map (λ (t : String). decimalOf 15 4 (bytes t)) ("999999999999999,9999" ∷ "0,20" ∷ "1234567890123456" ∷ "5," ∷ ",5" ∷ [])
     ≡ Value 9_999_999_999_999_999_999 ∷ Value 2_000 ∷ Malformed ∷ Malformed ∷ Malformed ∷ []
-unfolding decimalOf decimalAt wholeOnly wholeAndPart digitsUpTo numberAfter all positionOf
+unfolding decimalOf decimalAt wholeOnly wholeAndPart digitsUpTo digitsValueAfter all positionOf
 worked = refl

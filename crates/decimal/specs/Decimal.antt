@@ -15,21 +15,21 @@ use Rattle.decimal.specs.declared.Decimal.the-variants.{Value, Malformed
 unfoldable pub digitsUpTo : ℕ → List ℕ → Bool
 digitsUpTo k s = leb 1 (length s) && leb (length s) k && all isDigit s
 
--- the number that digits write behind the number v; and the number that they write
-unfoldable pub numberAfter : ℕ → List ℕ → ℕ
-numberAfter v [] = v
-numberAfter v (b ∷ bs) = numberAfter (v * 10 + (b - code "0")) bs
+-- the number that digits write behind the number v; and the number that they write alone
+unfoldable pub digitsValueAfter : ℕ → List ℕ → ℕ
+digitsValueAfter v [] = v
+digitsValueAfter v (b ∷ bs) = digitsValueAfter (v * 10 + (b - code "0")) bs
 
-abbrev pub number : List ℕ → ℕ
-number s = numberAfter 0 s
+abbrev pub digitsValue : List ℕ → ℕ
+digitsValue s = digitsValueAfter 0 s
 
 -- digits without a comma; and digits w, a comma and digits f. The value counts in units of the n-th place behind the comma
 unfoldable pub wholeOnly : ℕ → ℕ → List ℕ → Decimal
-wholeOnly m n w = cond (digitsUpTo m w) (Value (number w * 10 ^ n)) Malformed
+wholeOnly m n w = cond (digitsUpTo m w) (Value (digitsValue w * 10 ^ n)) Malformed
 
 unfoldable pub wholeAndPart : ℕ → ℕ → List ℕ → List ℕ → Decimal
 wholeAndPart m n w f =
-    cond (digitsUpTo m w && digitsUpTo n f) (Value (number w * 10 ^ n + number f * 10 ^ (n - length f))) Malformed
+    cond (digitsUpTo m w && digitsUpTo n f) (Value (digitsValue w * 10 ^ n + digitsValue f * 10 ^ (n - length f))) Malformed
 
 -- Nm,n with the first comma at place k, which is the length where there is none
 unfoldable pub decimalAt : ℕ → ℕ → ℕ → List ℕ → Decimal

@@ -5,7 +5,7 @@ ghost use Prim.Native.Nat.{_≤_, _<_, _+_, _-_, _*_, _^_};
 ghost use lib.ListN.{length};
 ghost use Rattle.text.specs.Class.{isDigit};
 ghost use Rattle.text.specs.Bytes.{all};
-ghost use Rattle.decimal.specs.Decimal.{digitsUpTo, number, wholeOnly, wholeAndPart, decimalOf};
+ghost use Rattle.decimal.specs.Decimal.{digitsUpTo, digitsValue, wholeOnly, wholeAndPart, decimalOf};
 use text::Class;
 
 // What reading a decimal finds.
@@ -64,7 +64,7 @@ fn digit(b: u8) -> u64
 // The number that up to nineteen digits write.
 fn number_of(s: &[u8]) -> u64
     requires { ⌜ (length (now s) ≤ 19) × (all isDigit (now s) ≡ true) ⌝ }
-    ensures { λ r. ⌜ r ≡ number (now (s .entry)) ⌝ }
+    ensures { λ r. ⌜ r ≡ digitsValue (now (s .entry)) ⌝ }
 {
     let mut v: u64 = 0;
     let mut i = 0;
@@ -78,7 +78,7 @@ fn number_of(s: &[u8]) -> u64
 // The number that the digits write with n zeros behind them.
 fn scaled(s: &[u8], n: usize) -> u64
     requires { ⌜ (length (now s) + n ≤ 19) × (all isDigit (now s) ≡ true) ⌝ }
-    ensures { λ r. ⌜ r ≡ number (now (s .entry)) * 10 ^ n ⌝ }
+    ensures { λ r. ⌜ r ≡ digitsValue (now (s .entry)) * 10 ^ n ⌝ }
 {
     number_of(s) * power(n)
 }

@@ -9,12 +9,14 @@ use borrow.Author.Tests.{le-leb, leb-false, eqb-true, ltb-false}
 use lib.Dec.{eqb, leb, ltb}
 use lib.ListN.{length, take, drop}
 use lib.Seq.{length-take-le}
+use Rattle.frame.specs.Reply.{Reply, refused, accepted}
 use Rattle.text.specs.declared.Class.the-variants.{CapitalOrDigit}
 use Rattle.text.specs.Bytes.{same}
 use Rattle.text.specs.Text.{bytes}
 use Rattle.identifier.specs.Identifier.{nameUpTo}
 use Rattle.calendar.specs.Calendar.{realDate, realMinute}
-use Rattle.envelope.specs.declared.Piece.the-variants.{EndsAt}
+use Rattle.envelope.specs.declared.Piece.{Piece}
+use Rattle.envelope.specs.declared.Piece.the-variants.{EndsAt, Missing}
 use Rattle.envelope.specs.declared.Parts.{Parts}
 use Rattle.envelope.specs.declared.Head.{Head}
 use Rattle.envelope.specs.declared.Head.the-variants.{Read, Unread}
@@ -22,11 +24,10 @@ use Rattle.envelope.specs.declared.Span.{Span}
 use Rattle.envelope.specs.declared.Body.{Body}
 use Rattle.envelope.specs.declared.Body.the-variants.{Counted, Broken}
 use Rattle.envelope.specs.declared.Layout.{Layout}
-use Rattle.envelope.specs.declared.Opened.the-variants.{Report, Refused}
-use Rattle.envelope.specs.Pieces.{between, runOf, textEnd, partThen}
+use Rattle.envelope.specs.Pieces.{between, runOf, textEnd, onPiece, partThen}
 use Rattle.envelope.specs.Body.{Records, broken, records, crlf, recordsOf, apostropheFrom, counted, linesAt, bodyAt}
-use Rattle.envelope.specs.Envelope.{recordCountLimit, headOf, tailOf, Ordered, onHead, onBody, report, wordStage, tailStage, bodyStage}
-use Rattle.envelope.specs.Envelope.{dateStage, openedAs, senderOf, listed, recordsFrom}
+use Rattle.envelope.specs.Envelope.{recordCountLimit, headOf, tailOf, Ordered, onHead, onBody, layoutOf, wordStage, tailStage, bodyStage}
+use Rattle.envelope.specs.Envelope.{dateStage, envelopeOf, senderOf, listed, recordsFrom}
 use Rattle.envelope.proofs.PieceLaws.{run-within, run-all, missing-ends, found-piece, picked, text-found, part-found, then-found}
 
 unread-read : (h : Parts) → Unread ≡ Read h → ⊥
@@ -41,10 +42,10 @@ broken-counted b e = let z : _≡_ {A = ℕ} 0 1 = cc in omega arith
 counted-is : (a b : Span) → Counted a ≡ Counted b → a ≡ b
 counted-is a b e = cc
 
-refused-report : (n : ℕ) (l : Layout) → Refused n ≡ Report l → ⊥
+refused-report : (n : ℕ) (l : Layout) → refused n ≡ accepted l → ⊥
 refused-report n l e = let z : _≡_ {A = ℕ} 0 1 = cc in omega arith
 
-report-is : (a l : Layout) → Report a ≡ Report l → a ≡ l
+report-is : (a l : Layout) → accepted a ≡ accepted l → a ≡ l
 report-is a l e = cc
 
 -- a test that comes to v, not by its other branch
@@ -152,7 +153,7 @@ pub record Whole (s : List ℕ) (l : Layout) : Type 0 where
   pub named : nameUpTo 8 (senderOf s l) ≡ true
 
 body-whole : (s : List ℕ) (h : Parts) (l : Layout) → Ordered s h → nameUpTo 8 (between s (h .sender) (h .receiver - 1)) ≡ true
-    → bodyStage s h ≡ Report l → Whole s l
+    → bodyStage s h ≡ accepted l → Whole s l
 unfolding bodyStage recordsFrom
 body-whole s h l o n e =
     let w1 = found-body (bodyAt s (h .end)) _ _ (tailStage s h) (refused-report 8 l) e in
@@ -161,7 +162,7 @@ body-whole s h l o n e =
     let w3 = taken (same (between s (h .word) (h .«word_end»)) (between s (w2 .0) (length s - 1))) _ _ _ (refused-report 10 l) (w2 .1 .1) in
     let w4 = passed (ltb recordCountLimit (b .records)) _ _ _ (refused-report 11 l) (w3 .1) in
     let p = body-bounded s (h .end) b (w1 .1 .0) in
-    subst (λ (x : Layout). Whole s x) (report-is (report h b) l (w4 .1))
+    subst (λ (x : Layout). Whole s x) (report-is (layoutOf h b) l (w4 .1))
     (record {
       order = p .order;
       within = omega (arith, p .within);
@@ -173,8 +174,8 @@ body-whole s h l o n e =
       named = n;
     })
 
-pub opened-whole : (class s : List ℕ) (l : Layout) → openedAs class s ≡ Report l → Whole s l
-unfolding openedAs
+pub opened-whole : (class s : List ℕ) (l : Layout) → envelopeOf class s ≡ accepted l → Whole s l
+unfolding envelopeOf
 opened-whole class s l e =
     let w1 = found-head (headOf s class) _ _ (dateStage s) (refused-report 5 l) e in
     let h = w1 .0 in
@@ -183,3 +184,46 @@ opened-whole class s l e =
     let w2 = taken real _ _ _ (refused-report 6 l) (w1 .1 .1) in
     let w3 = taken (same (between s (h .receiver) (h .date - 1)) (bytes "ATBWA")) _ _ _ (refused-report 7 l) (w2 .1) in
     body-whole s h l (r .0) (r .1) (w3 .1)
+
+-- an envelope is refused by 5 to 11
+record FromFive (r : Reply Layout) : Type 0 where
+  bound : (n : ℕ) → r ≡ refused n → (5 ≤ n) × (n ≤ 11)
+
+five-refused : (k : ℕ) → 5 ≤ k → k ≤ 11 → FromFive (refused k)
+five-refused k low high = record { bound = λ n e. let same : k ≡ n = cc in rw (← same) (low, high) }
+
+five-accepted : (l : Layout) → FromFive (accepted l)
+five-accepted l = record { bound = λ n e. absurd (refused-report n l (sym e)) }
+
+five-test : (x : Bool) {a b : Reply Layout} → FromFive a → FromFive b → FromFive (cond x a b)
+five-test true f g = f
+five-test false f g = g
+
+five-piece : (x : Piece) {none : Reply Layout} {f : ℕ → Reply Layout} → FromFive none → ((p : ℕ) → FromFive (f p)) → FromFive (onPiece x none f)
+five-piece (EndsAt p) f g = g p
+five-piece Missing f g = f
+
+five-body : (x : Body) {none : Reply Layout} {f : Span → Reply Layout} → FromFive none → ((b : Span) → FromFive (f b)) → FromFive (onBody x none f)
+five-body (Counted b) f g = g b
+five-body Broken f g = f
+
+five-head : (x : Head) {none : Reply Layout} {f : Parts → Reply Layout} → FromFive none → ((h : Parts) → FromFive (f h)) → FromFive (onHead x none f)
+five-head (Read h) f g = g h
+five-head Unread f g = f
+
+from-five : (class s : List ℕ) → FromFive (envelopeOf class s)
+unfolding envelopeOf bodyStage
+from-five class s =
+    five-head (headOf s class) (five-refused 5 (omega arith) (omega arith)) (λ h.
+    five-test (realDate (between s (h .date) (h .time - 1)) && realMinute (between s (h .time) (h .word - 1)))
+    (five-test (same (between s (h .receiver) (h .date - 1)) (bytes "ATBWA"))
+    (five-body (bodyAt s (h .end)) (five-refused 8 (omega arith) (omega arith)) (λ b.
+    five-piece (tailOf s (b .end)) (five-refused 9 (omega arith) (omega arith)) (λ word.
+    five-test (same (between s (h .word) (h .«word_end»)) (between s word (length s - 1)))
+    (five-test (ltb recordCountLimit (b .records)) (five-refused 11 (omega arith) (omega arith)) (five-accepted (layoutOf h b)))
+    (five-refused 10 (omega arith) (omega arith)))))
+    (five-refused 7 (omega arith) (omega arith)))
+    (five-refused 6 (omega arith) (omega arith)))
+
+pub refused-from-five : (class s : List ℕ) (n : ℕ) → envelopeOf class s ≡ refused n → (5 ≤ n) × (n ≤ 11)
+refused-from-five class s n e = from-five class s .bound n e

@@ -9,6 +9,7 @@ use borrow.Author.Tests.{eq-eqb, le-leb, lt-leb, le-ltb, leb-true, eqb-true}
 use lib.Dec.{eqb, leb}
 use lib.ListN.{length, drop, length-drop}
 use lib.Seq.{drop-append-seam, take-append-seam, drop-drop}
+use Rattle.frame.specs.Reply.{accepted}
 use Rattle.frame.proofs.BoolLaws.{and-left, and-right, and-intro}
 use Rattle.text.specs.declared.Class.{Class}
 use Rattle.text.specs.declared.Class.the-variants.{Digit, CapitalOrDigit, WordByte, BodyByte}
@@ -23,10 +24,9 @@ use Rattle.envelope.specs.declared.Parts.{Parts}
 use Rattle.envelope.specs.declared.Span.{Span}
 use Rattle.envelope.specs.declared.Body.the-variants.{Counted}
 use Rattle.envelope.specs.declared.Layout.{Layout}
-use Rattle.envelope.specs.declared.Opened.the-variants.{Report}
 use Rattle.envelope.specs.Pieces.{between, runOf, begins, textEnd, partEnd, partThen}
 use Rattle.envelope.specs.Body.{records, crlf, recordsOf, linesAt, bodyAt}
-use Rattle.envelope.specs.Envelope.{recordCountLimit, headOf, tailOf, report, bodyStage, openedAs, senderOf, listed, recordsFrom}
+use Rattle.envelope.specs.Envelope.{recordCountLimit, headOf, tailOf, layoutOf, bodyStage, envelopeOf, senderOf, listed, recordsFrom}
 use Rattle.envelope.specs.Written.{Envelope, Formed, ReadsBack, linesThen, written, controlWord, allRecords}
 
 begins-self : (t q : List ℕ) → begins t (t ++ q) ≡ true
@@ -134,8 +134,8 @@ module _ (s : List ℕ) (at : ℕ) (rs : List (List ℕ)) (t : List ℕ) (a : al
   pub tail-there : drop endAt s ≡ 39 ∷ t
   tail-there = rest-at s firstAt (linesThen rs []) (39 ∷ t) lines-there
 
-  pub messages-there : recordsOf (between s firstAt endAt) ≡ records rs
-  messages-there =
+  pub records-there : recordsOf (between s firstAt endAt) ≡ records rs
+  records-there =
       let m : endAt - firstAt ≡ length (linesThen rs []) = omega arith in
       rw (m, lines-there, take-append-seam (linesThen rs []) (39 ∷ t)) (records-back rs a)
 
@@ -145,7 +145,7 @@ module _ (s : List ℕ) (at : ℕ) (rs : List (List ℕ)) (t : List ℕ) (a : al
       let run : runOf BodyByte (drop firstAt s) ≡ length (linesThen rs []) =
       rw lines-there (run-written BodyByte (linesThen rs []) (39 ∷ t) (lines-body rs a) (stopped t)) in
       let inside : endAt < length s = omega (arith, place-within s endAt 39 t tail-there) in
-      rw (text-written s at crlf (linesThen rs (39 ∷ t)) e .0, run, lt-leb _ _ inside, messages-there) refl
+      rw (text-written s at crlf (linesThen rs (39 ∷ t)) e .0, run, lt-leb _ _ inside, records-there) refl
 
 -- the tail, at the end of the file
 pub tail-back : (s : List ℕ) (at : ℕ) (w : List ℕ) → all isWordByte w ≡ true → 1 ≤ length w → length w ≤ 14
@@ -193,7 +193,7 @@ module _ (e : Envelope) where
 
   layout : drop 0 (written e)
       ≡ bytes "UNB+UNOA:1+" ++ (e .sender ++ (43 ∷ (e .receiver ++ (43 ∷ (e .date ++ (58 ∷ (e .time ++ (43 ∷ (e .word
-      ++ (e .class ++ (crlf ++ linesThen (e .messages) closing)))))))))))
+      ++ (e .class ++ (crlf ++ linesThen (e .records) closing)))))))))))
   unfolding written
   layout = refl
 
@@ -220,13 +220,13 @@ module _ (e : Envelope) where
       let p5 = then-written s a4 Digit 4 4 (e .time) 43 _ (time .0) (time .1) (time .2) refl (p4 .2) in
       let p6 = part-written s a5 WordByte 1 14 (e .word) _ (word .0) (word .1) (word .2) (class-stops (e .class) _ (f .class)) (p5 .2) in
       let p7 = text-written s a6 (e .class) _ (p6 .2) in
-      let rest : drop a7 s ≡ crlf ++ linesThen (e .messages) closing = p7 .1 in
-      let first = firstAt s a7 (e .messages) _ (f .messages) rest in
-      let end = endAt s a7 (e .messages) _ (f .messages) rest in
-      let p9 = tail-back s end (e .word) (word .0) (word .1) (word .2) (tail-there s a7 (e .messages) _ (f .messages) rest) in (
+      let rest : drop a7 s ≡ crlf ++ linesThen (e .records) closing = p7 .1 in
+      let first = firstAt s a7 (e .records) _ (f .records) rest in
+      let end = endAt s a7 (e .records) _ (f .records) rest in
+      let p9 = tail-back s end (e .word) (word .0) (word .1) (word .2) (tail-there s a7 (e .records) _ (f .records) rest) in (
         record { sender = 11; receiver = a2; date = a3; time = a4; word = a5; «word_end» = a6; end = a7 },
         (
-          record { first = first; end = end; records = length (e .messages) },
+          record { first = first; end = end; records = length (e .records) },
           (
             end + 17,
             record {
@@ -236,8 +236,8 @@ module _ (e : Envelope) where
               date = p4 .1;
               time = p5 .1;
               word = p6 .1;
-              body = body-there s a7 (e .messages) _ (f .messages) rest;
-              messages = messages-there s a7 (e .messages) _ (f .messages) rest;
+              body = body-there s a7 (e .records) _ (f .records) rest;
+              records = records-there s a7 (e .records) _ (f .records) rest;
               count = refl;
               tail = p9 .0;
               lastWord = p9 .1;
@@ -248,9 +248,9 @@ module _ (e : Envelope) where
 
   -- A report that is written to ATBWA with a real date and time, of at most 1,024 records, is opened as its sender's, with its records.
   pub report-back : Formed e → e .receiver ≡ bytes "ATBWA" → realDate (e .date) ≡ true → realMinute (e .time) ≡ true
-      → length (e .messages) ≤ recordCountLimit
-      → (l : Layout) × ((openedAs (e .class) (written e) ≡ Report l) × ((senderOf (written e) l ≡ e .sender) × (recordsFrom (written e) l ≡ e .messages)))
-  unfolding openedAs bodyStage recordsFrom
+      → length (e .records) ≤ recordCountLimit
+      → (l : Layout) × ((envelopeOf (e .class) (written e) ≡ accepted l) × ((senderOf (written e) l ≡ e .sender) × (recordsFrom (written e) l ≡ e .records)))
+  unfolding envelopeOf bodyStage recordsFrom
   report-back f to date time few =
       let r = read-back f in
       let h = r .0 in
@@ -260,9 +260,9 @@ module _ (e : Envelope) where
       let words : same (between (written e) (h .word) (h .«word_end»)) (between (written e) (r .1 .1 .0) (length (written e) - 1)) ≡ true =
       rw (back .word, back .lastWord) (same-refl (e .word)) in
       let receiver : same (between (written e) (h .receiver) (h .date - 1)) (bytes "ATBWA") ≡ true = rw (back .receiver, to) (same-refl (bytes "ATBWA")) in (
-        report h b,
+        layoutOf h b,
         (
           rw (back .head, back .date, date, back .time, time, receiver, back .body, back .tail, words, le-ltb _ _ count) refl,
-          (back .sender, ap listed (back .messages)),
+          (back .sender, ap listed (back .records)),
         ),
       )

@@ -5,6 +5,7 @@ use mathlib.Core.Bool.{_&&_, cond}
 use mathlib.Core.List.{List, []}
 use lib.Dec.{eqb, ltb}
 use lib.ListN.{length}
+use Rattle.frame.specs.Reply.{Reply, refused, accepted}
 use Rattle.text.specs.declared.Class.the-variants.{Digit, CapitalOrDigit, WordByte}
 use Rattle.text.specs.Bytes.{same}
 use Rattle.text.specs.Text.{bytes}
@@ -68,44 +69,49 @@ abbrev pub onBody : {A : Type 0} → Body → A → (Span → A) → A
 onBody (Counted b) none f = f b
 onBody Broken none f = none
 
--- a report: where its sender and its records lie, and how many records it has
-abbrev pub report : Parts → Span → Layout
-report h b =
+-- where the sender and the records of a report lie, and how many records it has
+abbrev pub layoutOf : Parts → Span → Layout
+layoutOf h b =
     record { sender = h .sender; «sender_end» = h .receiver - 1; first = b .first; end = b .end; records = b .records }
 
 -- 11 over 1,024 records
-abbrev pub countStage : List ℕ → Parts → Span → Opened
-countStage s h b = cond (ltb recordCountLimit (b .records)) (Refused 11) (Report (report h b))
+abbrev pub countStage : List ℕ → Parts → Span → Reply Layout
+countStage s h b = cond (ltb recordCountLimit (b .records)) (refused 11) (accepted (layoutOf h b))
 
 -- 10 the two words differ
-abbrev pub wordStage : List ℕ → Parts → Span → ℕ → Opened
+abbrev pub wordStage : List ℕ → Parts → Span → ℕ → Reply Layout
 wordStage s h b word =
-    cond (same (between s (h .word) (h .«word_end»)) (between s word (length s - 1))) (countStage s h b) (Refused 10)
+    cond (same (between s (h .word) (h .«word_end»)) (between s word (length s - 1))) (countStage s h b) (refused 10)
 
 -- 9 tail not of the layout, word form included
-abbrev pub tailStage : List ℕ → Parts → Span → Opened
-tailStage s h b = onPiece (tailOf s (b .end)) (Refused 9) (wordStage s h b)
+abbrev pub tailStage : List ℕ → Parts → Span → Reply Layout
+tailStage s h b = onPiece (tailOf s (b .end)) (refused 9) (wordStage s h b)
 
 -- 8 body not of the layout
-unfoldable pub bodyStage : List ℕ → Parts → Opened
-bodyStage s h = onBody (bodyAt s (h .end)) (Refused 8) (tailStage s h)
+unfoldable pub bodyStage : List ℕ → Parts → Reply Layout
+bodyStage s h = onBody (bodyAt s (h .end)) (refused 8) (tailStage s h)
 
 -- 7 receiver is not ATBWA
-abbrev pub receiverStage : List ℕ → Parts → Opened
-receiverStage s h = cond (same (between s (h .receiver) (h .date - 1)) (bytes "ATBWA")) (bodyStage s h) (Refused 7)
+abbrev pub receiverStage : List ℕ → Parts → Reply Layout
+receiverStage s h = cond (same (between s (h .receiver) (h .date - 1)) (bytes "ATBWA")) (bodyStage s h) (refused 7)
 
 -- 6 date not real in 2000 to 2099, or time not 0000 to 2359 with minutes to 59
-abbrev pub dateStage : List ℕ → Parts → Opened
+abbrev pub dateStage : List ℕ → Parts → Reply Layout
 dateStage s h =
-    cond (realDate (between s (h .date) (h .time - 1)) && realMinute (between s (h .time) (h .word - 1))) (receiverStage s h) (Refused 6)
+    cond (realDate (between s (h .date) (h .time - 1)) && realMinute (between s (h .time) (h .word - 1))) (receiverStage s h) (refused 6)
 
 -- 5 head not of the layout, date and time digits included
-unfoldable pub openedAs : List ℕ → List ℕ → Opened
-openedAs class s = onHead (headOf s class) (Refused 5) (dateStage s)
+unfoldable pub envelopeOf : List ℕ → List ℕ → Reply Layout
+envelopeOf class s = onHead (headOf s class) (refused 5) (dateStage s)
 
 -- a report file
-abbrev pub openedOf : List ℕ → Opened
-openedOf s = openedAs reportClass s
+abbrev pub reportOf : List ℕ → Reply Layout
+reportOf s = envelopeOf reportClass s
+
+-- what each case of an opened file stands for: the number of its refusal, 5 to 11; or a report, whose sender and records are those below
+abbrev pub openedAs : Opened → Reply Layout
+openedAs (Refused n) = refused n
+openedAs (Report l) = accepted l
 
 -- the sender and the records of a report
 abbrev pub senderOf : List ℕ → Layout → List ℕ

@@ -29,7 +29,7 @@ pub record Envelope : Type 0 where
   pub time : List ℕ
   pub word : List ℕ
   pub class : List ℕ  -- the text behind the control word
-  pub messages : List (List ℕ)  -- the records
+  pub records : List (List ℕ)
 
 -- each record with CR LF behind it, then what follows
 unfoldable pub linesThen : List (List ℕ) → List ℕ → List ℕ
@@ -39,7 +39,7 @@ linesThen (r ∷ rs) rest = r ++ (crlf ++ linesThen rs rest)
 unfoldable pub written : Envelope → List ℕ
 written e =
     bytes "UNB+UNOA:1+" ++ (e .sender ++ (bytes "+" ++ (e .receiver ++ (bytes "+" ++ (e .date ++ (bytes ":" ++ (e .time ++ (bytes "+"
-    ++ (e .word ++ (e .class ++ (crlf ++ linesThen (e .messages) (bytes "'UNT+3+BWA'UNZ+1+" ++ (e .word ++ bytes "'")))))))))))))
+    ++ (e .word ++ (e .class ++ (crlf ++ linesThen (e .records) (bytes "'UNT+3+BWA'UNZ+1+" ++ (e .word ++ bytes "'")))))))))))))
 
 -- a control word: 1 to 14 bytes from 0x20 to 0x7E without + ' : ?
 abbrev pub controlWord : List ℕ → Bool
@@ -57,7 +57,7 @@ pub record Formed (e : Envelope) : Type 0 where
   pub time : digitsExactly 4 (e .time) ≡ true
   pub word : controlWord (e .word) ≡ true
   pub class : runOf WordByte (e .class) ≡ 0
-  pub messages : allRecords (e .messages) ≡ true
+  pub records : allRecords (e .records) ≡ true
 
 -- what it is read back as: the parts of its head, its body and its tail, and in them what it was written from
 pub record ReadsBack (e : Envelope) (h : Parts) (b : Span) (last : ℕ) : Type 0 where
@@ -68,7 +68,7 @@ pub record ReadsBack (e : Envelope) (h : Parts) (b : Span) (last : ℕ) : Type 0
   pub time : between (written e) (h .time) (h .word - 1) ≡ e .time
   pub word : between (written e) (h .word) (h .«word_end») ≡ e .word
   pub body : bodyAt (written e) (h .end) ≡ Counted b
-  pub messages : recordsOf (between (written e) (b .first) (b .end)) ≡ records (e .messages)
-  pub count : b .records ≡ length (e .messages)
+  pub records : recordsOf (between (written e) (b .first) (b .end)) ≡ records (e .records)
+  pub count : b .records ≡ length (e .records)
   pub tail : tailOf (written e) (b .end) ≡ EndsAt last
   pub lastWord : between (written e) last (length (written e) - 1) ≡ e .word

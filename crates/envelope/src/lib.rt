@@ -5,7 +5,7 @@ ghost use lib.ListN.{drop};
 ghost use Rattle.text.specs.declared.Class.the-variants.{RecordByte};
 ghost use Rattle.envelope.specs.Pieces.{runOf, textEnd, partEnd, partThen};
 ghost use Rattle.envelope.specs.Body.{lineEnd, linesAt, bodyAt};
-ghost use Rattle.envelope.specs.Envelope.{Ordered, headOf, tailOf, bodyStage, openedAs, openedOf};
+ghost use Rattle.envelope.specs.Envelope.{Ordered, headOf, tailOf, bodyStage, envelopeOf, reportOf, openedAs};
 use text::Class;
 
 // The most records of a file.
@@ -256,7 +256,7 @@ fn read_tail(s: &[u8], at: usize) -> Piece
 // Refusals 8 to 11, of a file whose head was read: its body, its tail, its words and its count of records.
 fn open_body(s: &[u8], h: Parts) -> Opened
     requires { ⌜ Ordered (now s) h ⌝ }
-    ensures { λ r. ⌜ r ≡ bodyStage (now (s .entry)) h ⌝ }
+    ensures { λ r. ⌜ openedAs r ≡ bodyStage (now (s .entry)) h ⌝ }
 {
     let Body::Counted(b) = read_body(s, h.end) else {
         return Opened::Refused(8);
@@ -266,7 +266,7 @@ fn open_body(s: &[u8], h: Parts) -> Opened
     };
     let word = h.word;
     let word_end = h.word_end;
-    if !text::equal(&s[word..word_end], &s[last..s.len() - 1]) {
+    if !text::same(&s[word..word_end], &s[last..s.len() - 1]) {
         return Opened::Refused(10);
     }
     if RECORD_COUNT_LIMIT < b.records {
@@ -283,7 +283,7 @@ fn open_body(s: &[u8], h: Parts) -> Opened
 
 // A report file of a message class, or the number of its refusal, 5 to 11.
 pub fn open(s: &[u8], class: &[u8]) -> Opened
-    ensures { λ r. ⌜ r ≡ openedAs (now (class .entry)) (now (s .entry)) ⌝ }
+    ensures { λ r. ⌜ openedAs r ≡ envelopeOf (now (class .entry)) (now (s .entry)) ⌝ }
 {
     let Head::Read(h) = read_head(s, class) else {
         return Opened::Refused(5);
@@ -296,7 +296,7 @@ pub fn open(s: &[u8], class: &[u8]) -> Opened
         & calendar::is_real_minute(&s[time..word - 1])) {
         return Opened::Refused(6);
     }
-    if !text::equal(&s[receiver..date - 1], b"ATBWA") {
+    if !text::same(&s[receiver..date - 1], b"ATBWA") {
         return Opened::Refused(7);
     }
     open_body(s, h)
@@ -304,7 +304,7 @@ pub fn open(s: &[u8], class: &[u8]) -> Opened
 
 // A report file, or the number of its refusal, 5 to 11.
 pub fn open_report(s: &[u8]) -> Opened
-    ensures { λ r. ⌜ r ≡ openedOf (now (s .entry)) ⌝ }
+    ensures { λ r. ⌜ openedAs r ≡ reportOf (now (s .entry)) ⌝ }
 {
     open(s, b"++BWAMS'UNH+BWA+BWA:0'")
 }

@@ -16,9 +16,9 @@ use lib.ListN.{length, getD, take, drop, set, replicate, length-append, length-s
 use lib.ListN.{List·getD-append, getD-replicate}
 use lib.Seq.{drop-cons, drop-drop, take-suc-set, append-snoc, length-take-le, take-all}
 use Rattle.frame.proofs.BoolLaws.{and-false}
-use Rattle.text.specs.Bytes.{countOf}
+use Rattle.text.specs.Part.{Lies}
 use Rattle.fields.specs.declared.Place.{Place}
-use Rattle.fields.specs.Fields.{semicolonsFrom, semicolons, isWhole, fieldStart, fieldEnd, emptyPlace, fieldPlace, fieldOf, Lies}
+use Rattle.fields.specs.Fields.{semicolonsFrom, semicolons, isWhole, fieldStart, fieldEnd, emptyPlace, fieldPlace, bytesAt, fieldOf}
 use Rattle.fields.specs.Fields.{Extended, stopsOf, isWholeIndex, isPlaced, placeIn, fieldBy}
 
 -- the laws of a loop that puts the places of semicolons behind those counted: what is still to be found stands in the rest of the part, from i
@@ -58,21 +58,6 @@ semicolons-append at (x ∷ s) t = go (eqb x (code ";")) (semicolons-append (suc
         ≡ cond b (at ∷ semicolonsFrom (suc at) s) (semicolonsFrom (suc at) s) ++ semicolonsFrom (at + suc (length s)) t
     go true e = ap (λ (l : List ℕ). at ∷ l) (e ∙ rw (add-suc at (length s), suc-add at (length s)) refl)
     go false e = e ∙ rw (add-suc at (length s), suc-add at (length s)) refl
-
--- a record is whole by the number of its semicolons
-semicolons-count : (at : ℕ) (s : List ℕ) → length (semicolonsFrom at s) ≡ countOf (code ";") s
-unfolding semicolonsFrom countOf
-semicolons-count at [] = refl
-semicolons-count at (x ∷ xs) = go (eqb x (code ";")) (semicolons-count (suc at) xs)
-  where
-    go : (t : Bool) → length (semicolonsFrom (suc at) xs) ≡ countOf (code ";") xs
-        → length (cond t (at ∷ semicolonsFrom (suc at) xs) (semicolonsFrom (suc at) xs)) ≡ cond t 1 0 + countOf (code ";") xs
-    go true e = omega arith
-    go false e = omega arith
-
-pub whole-count : (s : List ℕ) → isWhole s ≡ eqb (countOf (code ";") s) 38
-unfolding isWhole
-whole-count s = rw semicolons-count
 
 -- the index of a record that isn't whole, and of one that is
 pub stops-broken : (s : List ℕ) → isWhole s ≡ false → stopsOf s ≡ replicate 39 0
@@ -310,22 +295,23 @@ pub field-by : (s : List ℕ) (n : ℕ) → fieldBy s (stopsOf s) n ≡ fieldOf 
 unfolding fieldOf
 field-by s n = rw placed refl
 
--- the bytes of what lies where the field view says
-pub lies-field : (s : RefT (List ℕ)) (n : ℕ) {r : RefT (List ℕ)} → Lies s (fieldPlace (now s) n) r → now r ≡ fieldOf (now s) n
-unfolding fieldOf
-lies-field s n h = h .bytes
-
--- what `part` lends, from the place's start to its end, lies at the place
+-- a place that an index or the field view gives lies within the record
 pub lent-inside : (size : ℕ) (stops : List ℕ) (n : ℕ) {p : Place} → p ≡ placeIn size stops n → p .start + p .length ≤ size
 lent-inside size stops n e = rw e (place-inside size stops n)
 
-pub lent-lies : (s : RefT (List ℕ)) {p q : Place} → p ≡ q → (r : RefT (List ℕ))
-    → now r ≡ take (p .start + p .length - p .start) (drop (p .start) (now s)) → ptr r ≡ (ptr s .0, p .start + ptr s .1) → Lies s q r
-lent-lies s {p} e r b a =
-    let l : p .start + p .length - p .start ≡ p .length = omega arith in
-    record { bytes = b ∙ rw (l, e) refl; address = a ∙ rw (add-comm (p .start) (ptr s .1), e) refl }
+pub view-inside : (s : List ℕ) (n : ℕ) {p : Place} → p ≡ fieldPlace s n → p .start + p .length ≤ length s
+view-inside s n e = rw e (field-inside s n)
 
--- what lies where the index of the record says, lies where the field view says
-pub indexed-lies : (s : RefT (List ℕ)) (n : ℕ) {stops : List ℕ} {r : RefT (List ℕ)} → stops ≡ stopsOf (now s)
-    → Lies s (placeIn (length (now s)) stops n) r → Lies s (fieldPlace (now s) n) r
-indexed-lies s n e h = rw (e, placed (now s) n) at h
+-- what is lent from a place's start to its end are the bytes at the place
+pub cut-bytes : (s : List ℕ) (p : Place) → take (p .start + p .length - p .start) (drop (p .start) s) ≡ bytesAt s p
+cut-bytes s p = let l : p .start + p .length - p .start ≡ p .length = omega arith in ap (λ (k : ℕ). take k (drop (p .start) s)) l
+
+-- what lies at a place that is field n's is that field
+pub lies-part : (lent : RefT (List ℕ)) (stops : List ℕ) (n : ℕ) {p : Place} {r : RefT (List ℕ)} → p ≡ placeIn (length (now lent)) stops n
+    → Lies lent (p .start) (bytesAt (now lent) p) r → Lies lent (placeIn (length (now lent)) stops n .start) (fieldBy (now lent) stops n) r
+lies-part lent stops n e h = rw e at h
+
+pub lies-field : (lent : RefT (List ℕ)) (n : ℕ) {p : Place} {r : RefT (List ℕ)} → p ≡ fieldPlace (now lent) n
+    → Lies lent (p .start) (bytesAt (now lent) p) r → Lies lent (fieldPlace (now lent) n .start) (fieldOf (now lent) n) r
+unfolding fieldOf
+lies-field lent n e h = rw e at h

@@ -4,13 +4,11 @@ use mathlib.Core.List.{List, [], _∷_, map}
 use mathlib.Core.Path.{_≡_, refl}
 use Prim.Native.Nat.{ℕ}
 use Rattle.text.specs.Text.{bytes}
+use Rattle.fields.specs.Worked.{workedRecord, r1}
 use Rattle.fields.specs.Fields.{semicolonsFrom, isWhole, fieldStart, fieldEnd, fieldPlace, fieldOf}
-
-abbrev pub r1 : List ℕ
-r1 = bytes "B;98001;I;4711;;;B;20130903;101500;;;;;WBAH;J;;;N;S;AT0000831706;XXX;1500;1;EUR;54,7;;;K;;;;;;;;;;N;A1"
 
 pub worked :
     map (fieldOf r1) (1 ∷ 2 ∷ 20 ∷ 25 ∷ 38 ∷ 39 ∷ 0 ∷ 40 ∷ [])
     ≡ bytes "B" ∷ bytes "98001" ∷ bytes "AT0000831706" ∷ bytes "54,7" ∷ bytes "N" ∷ bytes "A1" ∷ [] ∷ [] ∷ []
-unfolding fieldOf fieldPlace fieldStart fieldEnd isWhole semicolonsFrom
+unfolding workedRecord fieldOf fieldPlace fieldStart fieldEnd isWhole semicolonsFrom
 worked = refl

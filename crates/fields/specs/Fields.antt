@@ -5,7 +5,6 @@ use Prim.Native.Char.{code}
 use mathlib.Core.Bool.{Bool, true, false, _&&_, _||_, cond}
 use mathlib.Core.List.{List, [], _∷_, _++_}
 use mathlib.Core.Path.{_≡_}
-use denote.Ref.{RefT, now, ptr}
 use lib.Dec.{leb, ltb, eqb}
 use lib.ListN.{length, getD, take, drop, replicate}
 use Rattle.fields.specs.declared.Place.{Place}
@@ -16,18 +15,18 @@ semicolonsFrom at [] = []
 semicolonsFrom at (x ∷ xs) = cond (eqb x (code ";")) (at ∷ semicolonsFrom (suc at) xs) (semicolonsFrom (suc at) xs)
 
 abbrev pub semicolons : List ℕ → List ℕ
-semicolons s = semicolonsFrom 0 s
+semicolons «record» = semicolonsFrom 0 «record»
 
 -- a record has 38 semicolons
 unfoldable pub isWhole : List ℕ → Bool
-isWhole s = eqb (length (semicolons s)) 38
+isWhole «record» = eqb (length (semicolons «record»)) 38
 
 -- where field n begins and ends: behind the semicolon before it, field 1 at the start; at the semicolon after it, field 39 at the end
 unfoldable pub fieldStart : List ℕ → ℕ → ℕ
-fieldStart s n = cond (eqb n 1) 0 (suc (getD (semicolons s) (n - 2) 0))
+fieldStart «record» n = cond (eqb n 1) 0 (suc (getD (semicolons «record») (n - 2) 0))
 
 unfoldable pub fieldEnd : List ℕ → ℕ → ℕ
-fieldEnd s n = getD (semicolons s ++ (length s ∷ [])) (n - 1) 0
+fieldEnd «record» n = getD (semicolons «record» ++ (length «record» ∷ [])) (n - 1) 0
 
 -- the empty part at the record's start
 abbrev pub emptyPlace : Place
@@ -35,22 +34,22 @@ emptyPlace = record { start = 0; length = 0 }
 
 -- where field n lies; the empty part for a number outside 1 to 39, or a record without 38 semicolons
 unfoldable pub fieldPlace : List ℕ → ℕ → Place
-fieldPlace s n =
-    cond (isWhole s && leb 1 n && leb n 39)
-    (record { start = fieldStart s n; length = fieldEnd s n - fieldStart s n })
+fieldPlace «record» n =
+    cond (isWhole «record» && leb 1 n && leb n 39)
+    (record { start = fieldStart «record» n; length = fieldEnd «record» n - fieldStart «record» n })
     emptyPlace
 
 -- the bytes that lie at a place
 abbrev pub bytesAt : List ℕ → Place → List ℕ
-bytesAt s p = take (p .length) (drop (p .start) s)
+bytesAt «record» p = take (p .length) (drop (p .start) «record»)
 
 -- "The field view": the bytes of field n
 unfoldable pub fieldOf : List ℕ → ℕ → List ℕ
-fieldOf s n = bytesAt s (fieldPlace s n)
+fieldOf «record» n = bytesAt «record» (fieldPlace «record» n)
 
 -- The index of a record: where each of its fields ends, in order; all 0 for a record without 38 semicolons.
 unfoldable pub stopsOf : List ℕ → List ℕ
-stopsOf s = cond (isWhole s) (semicolons s ++ (length s ∷ [])) (replicate 39 0)
+stopsOf «record» = cond (isWhole «record») (semicolons «record» ++ (length «record» ∷ [])) (replicate 39 0)
 
 -- the first places of an index, further ones put behind them, are the first r of a later one; r is above 38 where they are more than 38
 pub record Extended (stops : List ℕ) (found : ℕ) (more later : List ℕ) (r : ℕ) : Type 0 where
@@ -75,9 +74,4 @@ placeIn size stops n =
 
 -- the bytes of field n by an index
 abbrev pub fieldBy : List ℕ → List ℕ → ℕ → List ℕ
-fieldBy s stops n = bytesAt s (placeIn (length s) stops n)
-
--- a part of s: its bytes are those at the place, and it lies there in the caller's memory
-pub record Lies (s : RefT (List ℕ)) (p : Place) (r : RefT (List ℕ)) : Type 0 where
-  pub bytes : now r ≡ bytesAt (now s) p
-  pub address : ptr r ≡ (ptr s .0, ptr s .1 + p .start)
+fieldBy «record» stops n = bytesAt «record» (placeIn (length «record») stops n)

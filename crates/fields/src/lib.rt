@@ -4,7 +4,8 @@ ghost use mathlib.Core.Path.{_≡_};
 ghost use Prim.Native.Nat.{_+_, _^_, _≤_, _<_};
 ghost use lib.ListN.{length, getD};
 ghost use Rattle.fields.specs.Forms.{letter};
-ghost use Rattle.fields.specs.Fields.{semicolonsFrom, isWhole, Extended, stopsOf, isWholeIndex, emptyPlace, placeIn, fieldPlace, Lies};
+ghost use Rattle.text.specs.Part.{Lies};
+ghost use Rattle.fields.specs.Fields.{semicolonsFrom, isWhole, Extended, stopsOf, isWholeIndex, emptyPlace, placeIn, bytesAt, fieldBy, fieldPlace, fieldOf};
 
 // The bytes of a record that are searched for semicolons at once.
 const BLOCK_SIZE: usize = 16;
@@ -39,37 +40,37 @@ fn extend(stops: &mut [usize; 39], found: usize, w: &[u8], at: usize) -> usize
 
 // Makes the index of a record with 38 semicolons, in one pass, and says whether it has so many. It goes block by block: a loop over a count that is
 // known is compiled to straight steps.
-fn fill(stops: &mut [usize; 39], s: &[u8]) -> bool
+fn fill(stops: &mut [usize; 39], record: &[u8]) -> bool
     requires { ⌜ length (now stops) ≡ 39 ⌝ }
-    ensures { λ r. ⌜ (r ≡ isWhole (now (s .entry))) × (r ≡ true → now (stops .exit) ≡ stopsOf (now (s .entry))) ⌝ }
+    ensures { λ r. ⌜ (r ≡ isWhole (now («record» .entry))) × (r ≡ true → now (stops .exit) ≡ stopsOf (now («record» .entry))) ⌝ }
 {
     let mut found: usize = 0;
     let mut p = 0;
-    while BLOCK_SIZE <= s.len() - p {
+    while BLOCK_SIZE <= record.len() - p {
         let next = p + BLOCK_SIZE;
-        found = extend(stops, found, &s[p..next], p);
+        found = extend(stops, found, &record[p..next], p);
         if 38 < found {
             return false;
         }
         p = next;
     }
-    found = extend(stops, found, &s[p..], p);
+    found = extend(stops, found, &record[p..], p);
     if found != 38 {
         return false;
     }
-    stops[38] = s.len();
+    stops[38] = record.len();
     true
 }
 
 // The index of a record: where each of its fields ends; all 0 for a record without 38 semicolons, as each of fewer bytes is.
-pub fn index(s: &[u8]) -> [usize; 39]
-    ensures { λ r. ⌜ r ≡ stopsOf (now (s .entry)) ⌝ }
+pub fn index(record: &[u8]) -> [usize; 39]
+    ensures { λ r. ⌜ r ≡ stopsOf (now («record» .entry)) ⌝ }
 {
-    if s.len() < 38 {
+    if record.len() < 38 {
         return [0usize; 39];
     }
     let mut stops = [0usize; 39];
-    if fill(&mut stops, s) {
+    if fill(&mut stops, record) {
         return stops;
     }
     [0usize; 39]
@@ -124,33 +125,40 @@ pub fn place_of(size: usize, stops: &[usize; 39], n: usize) -> Place
 }
 
 // Where field n of a record lies; the empty part at its start for another number, or where it hasn't 38 semicolons.
-pub fn field_place(s: &[u8], n: usize) -> Place
-    ensures { λ r. ⌜ r ≡ fieldPlace (now (s .entry)) n ⌝ }
+pub fn field_place(record: &[u8], n: usize) -> Place
+    ensures { λ r. ⌜ r ≡ fieldPlace (now («record» .entry)) n ⌝ }
 {
     let mut stops = [0usize; 39];
-    if fill(&mut stops, s) {
-        return place_of(s.len(), &stops, n);
+    if fill(&mut stops, record) {
+        return place_of(record.len(), &stops, n);
     }
     empty_place()
 }
 
-// Field n by an index: that part of the record.
-pub fn part<'a>(s: &'a [u8], stops: &[usize; 39], n: usize) -> &'a [u8]
-    ensures { λ r. ⌜ Lies (s .entry) (placeIn (length (now (s .entry))) (now (stops .entry)) n) r ⌝ }
+// What lies at a place of a record.
+fn cut(record: &[u8], p: Place) -> &[u8]
+    requires { ⌜ p .start + p .length ≤ length (now «record») ⌝ }
+    ensures { λ r. ⌜ Lies («record» .entry) (p .start) (bytesAt (now («record» .entry)) p) r ⌝ }
 {
-    let p = place_of(s.len(), stops, n);
     let start = p.start;
     let end = start + p.length;
-    &s[start..end]
+    &record[start..end]
+}
+
+// Field n by an index: that part of the record.
+pub fn part<'a>(record: &'a [u8], stops: &[usize; 39], n: usize) -> &'a [u8]
+    ensures { λ r. ⌜ Lies («record» .entry) (placeIn (length (now («record» .entry))) (now (stops .entry)) n .start)
+        (fieldBy (now («record» .entry)) (now (stops .entry)) n) r ⌝ }
+{
+    cut(record, place_of(record.len(), stops, n))
 }
 
 // The field view: field n of the record, the part between its semicolons; the empty part at the record's start for another number, or where it
 // hasn't 38 semicolons.
-pub fn field(s: &[u8], n: usize) -> &[u8]
-    ensures { λ r. ⌜ Lies (s .entry) (fieldPlace (now (s .entry)) n) r ⌝ }
+pub fn field(record: &[u8], n: usize) -> &[u8]
+    ensures { λ r. ⌜ Lies («record» .entry) (fieldPlace (now («record» .entry)) n .start) (fieldOf (now («record» .entry)) n) r ⌝ }
 {
-    let stops = index(s);
-    part(s, &stops, n)
+    cut(record, field_place(record, n))
 }
 
 // The byte of a field of one byte; 0 for any other field.

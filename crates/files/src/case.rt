@@ -9,7 +9,7 @@ use libc::STDOUT_FILENO;
 // Prints the number of the refusal, or the count of records.
 fn print_filed(filed: Filed) {
     match filed {
-        Filed::Refusal(n) => {
+        Filed::Refused(n) => {
             io::write_all(STDOUT_FILENO, b" refused ");
             io::print_decimal(STDOUT_FILENO, n as u64);
         }

@@ -41,7 +41,7 @@ fn apply(buffer: &mut [u8], n: usize, name: &[u8], token: &[u8]) -> usize
     requires { ⌜ n ≤ length (now buffer) ⌝ }
     ensures { λ r. ⌜ r ≤ length (now (buffer .exit)) ⌝ }
 {
-    if !text::equal(before(token, b':'), name) {
+    if !text::same(before(token, b':'), name) {
         return n;
     }
     let mut copy = [0u8; 36864];

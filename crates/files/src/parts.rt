@@ -55,7 +55,7 @@ fn append_hex(out: &mut [u8], at: usize, hex: &[u8]) -> usize {
 
 // Writes the bytes that a piece stands for: hexadecimal behind %, else itself.
 pub(crate) fn append_piece(out: &mut [u8], at: usize, piece: &[u8]) -> usize {
-    if text::equal(text::front(piece, 1), b"%") {
+    if text::same(text::front(piece, 1), b"%") {
         return append_hex(out, at, text::rest(piece, 1));
     }
     page::append(out, at, piece)
@@ -65,7 +65,7 @@ pub(crate) fn append_piece(out: &mut [u8], at: usize, piece: &[u8]) -> usize {
 fn find(s: &[u8], t: &[u8]) -> usize {
     let mut i = 0;
     while i < s.len() {
-        if text::equal(text::front(text::rest(s, i), t.len()), t) {
+        if text::same(text::front(text::rest(s, i), t.len()), t) {
             return i;
         }
         i += 1;

@@ -6,10 +6,10 @@ use mathlib.Core.Bool.{Bool, true, false, cond}
 use mathlib.Core.List.{List, [], _∷_}
 use lib.Dec.{eqb}
 use borrow.Author.Tests.{eqb-true, le-ltb}
-use Rattle.frame.specs.Isolation.{Rules, Reply, Outcome, soundLedger, compartment, act, single, ledgerAfter, answersFor}
+use Rattle.frame.specs.Isolation.{Rules, Lawful, Outcome, soundLedger, compartment, act, single, ledgerAfter, answersFor}
 use Rattle.frame.specs.Isolation.{isStep, steps, loneAnswers, loneState}
 use Rattle.frame.proofs.BoolLaws.{and-right}
-use Rattle.frame.proofs.Isolation.{Lawful, isolation, after-size}
+use Rattle.frame.proofs.Isolation.{isolation, after-size}
 use Rattle.frame.proofs.PartLaws.{parts-ext}
 
 module _ (R : Rules) where

@@ -12,17 +12,12 @@ use lib.Dec.{eqb, ltb}
 use lib.ListN.{length}
 use borrow.Author.Tests.{eqb-true, eqb-false, eq-eqb, ne-eqb, ltb-true, ltb-false, lt-ltb, le-ltb}
 use Rattle.frame.specs.Parts.{part, put}
-use Rattle.frame.specs.Isolation.{Rules, Reply, refused, answer, Outcome, refusedBy, soundLedger, compartment, act, single, replies, ledgerAfter}
+use Rattle.frame.specs.Reply.{Reply, refused, accepted, refusalIn}
+use Rattle.frame.specs.Isolation.{Rules, Lawful, Outcome, soundLedger, compartment, act, single, replies, ledgerAfter}
 use Rattle.frame.specs.Isolation.{ownReplies, answersFor, isStep, steps, loneAnswers, loneState, bankAfterBank, Isolated}
 use Rattle.frame.proofs.BoolLaws.{and-left, and-right, and-intro}
 use Rattle.frame.proofs.EveryLaws.{every-at, every-intro}
 use Rattle.frame.proofs.PartLaws.{before, part-put, part-put-other, put-length, parts-ext}
-
--- What the theorem asks of the rules: a step keeps a compartment sound, and a sound compartment has its size.
-pub record Lawful (R : Rules) : Type 0 where
-  pub size-positive : 0 < R .size
-  pub sound-length : (s : List ℕ) → R .sound s ≡ true → length s ≡ R .size
-  pub next-sound : (c : R .Call) (s : List ℕ) → R .sound s ≡ true → R .sound (R .next c s) ≡ true
 
 module _ (R : Rules) (H : Lawful R) where
   open Rules R using (Call, Answer, banks, size, sound, refusal, bank, stranger, judge, next)
@@ -121,16 +116,16 @@ module _ (R : Rules) (H : Lawful R) where
         lone-state cs _ (single-sound c l h) ∙ state-turn (isStep R r c) c (steps R r cs) (compartment R r l) _ (single-state c l h)
 
   -- a call on a sound ledger is refused as the flag says, and answered otherwise
-  act-refused : (c : Call) (l : List ℕ) (n : ℕ) (f b : Bool) → eqb n 0 ≡ f → refusedBy (act R c l n f b .reply) ≡ n
+  act-refused : (c : Call) (l : List ℕ) (n : ℕ) (f b : Bool) → eqb n 0 ≡ f → refusalIn (act R c l n f b .reply) ≡ n
   act-refused c l n true true e = sym (eqb-true n 0 e)
   act-refused c l n true false e = sym (eqb-true n 0 e)
   act-refused c l n false b e = refl
 
-  single-refusal : (c : Call) (l : List ℕ) → soundLedger R l ≡ true → refusedBy (single R c l .reply) ≡ refusal c true
+  single-refusal : (c : Call) (l : List ℕ) → soundLedger R l ≡ true → refusalIn (single R c l .reply) ≡ refusal c true
   unfolding single
   single-refusal c l h = act-refused c l (refusal c (soundLedger R l)) _ _ refl ∙ ap (refusal c) h
 
-  all-refusals : (cs : List Call) (l : List ℕ) → soundLedger R l ≡ true → map refusedBy (replies R cs l) ≡ map (λ c. refusal c true) cs
+  all-refusals : (cs : List Call) (l : List ℕ) → soundLedger R l ≡ true → map refusalIn (replies R cs l) ≡ map (λ c. refusal c true) cs
   all-refusals [] l h = refl
   all-refusals (c ∷ cs) l h = rw (single-refusal c l h, all-refusals cs _ (single-sound c l h))
 
@@ -230,9 +225,9 @@ module _ (R : Rules) (c : R .Call) (l : List ℕ) where
   pub single-refused : (n : ℕ) → R .refusal c (soundLedger R l) ≡ n → (n ≡ 0 → ⊥) → single R c l ≡ record { reply = refused n; ledger = l }
   single-refused n e ne = refused-as e ∙ rw (ne-eqb n 0 ne)
 
-  pub single-stranger : R .refusal c (soundLedger R l) ≡ 0 → R .banks ≤ R .bank c → single R c l ≡ record { reply = answer (R .stranger c); ledger = l }
+  pub single-stranger : R .refusal c (soundLedger R l) ≡ 0 → R .banks ≤ R .bank c → single R c l ≡ record { reply = accepted (R .stranger c); ledger = l }
   single-stranger e h = refused-as e ∙ rw (le-ltb _ _ h)
 
   pub single-step : (r : ℕ) → R .refusal c (soundLedger R l) ≡ 0 → R .bank c ≡ r → r < R .banks
-      → single R c l ≡ record { reply = answer (R .judge c (compartment R r l)); ledger = put (R .size) r (R .next c (compartment R r l)) l }
+      → single R c l ≡ record { reply = accepted (R .judge c (compartment R r l)); ledger = put (R .size) r (R .next c (compartment R r l)) l }
   single-step r e b h = let inside : R .bank c < R .banks = rw b h in refused-as e ∙ rw (lt-ltb _ _ inside, b)

@@ -8,6 +8,7 @@ use lib.Dec.{eqb, ltb}
 use lib.ListN.{length}
 use Rattle.frame.specs.Parts.{part, put}
 use Rattle.frame.specs.Every.{every}
+use Rattle.frame.specs.Reply.{Reply, refused, accepted, refusalIn}
 
 -- The rules that a list of calls is run under, the lent tables being fixed. A call is its arguments but for the ledger.
 pub record Rules : Type 1 where
@@ -22,19 +23,16 @@ pub record Rules : Type 1 where
   pub judge : Call → List ℕ → Answer  -- the answer to a record that passes, on its bank's compartment as it then stands
   pub next : Call → List ℕ → List ℕ  -- that compartment afterwards
 
--- What a call returns: the number of its refusal, or an answer.
-pub data Reply (A : Type 0) : Type 0 where
-  refused : ℕ → Reply A
-  answer : A → Reply A
+-- What the theorem asks of the rules: a sound compartment has its size, and a step keeps it sound.
+pub record Lawful (R : Rules) : Type 0 where
+  pub size-positive : 0 < R .size
+  pub sound-length : (s : List ℕ) → R .sound s ≡ true → length s ≡ R .size
+  pub next-sound : (c : R .Call) (s : List ℕ) → R .sound s ≡ true → R .sound (R .next c s) ≡ true
 
+-- what a call returns, and the ledger that it leaves
 pub record Outcome (A : Type 0) : Type 0 where
   pub reply : Reply A
   pub ledger : List ℕ
-
--- the number of the refusal, 0 for an answer
-abbrev pub refusedBy : {A : Type 0} → Reply A → ℕ
-refusedBy (refused n) = n
-refusedBy (answer a) = 0
 
 module _ (R : Rules) where
   open Rules R using (Call, Answer, banks, size, sound, refusal, bank, stranger, judge, next)
@@ -48,8 +46,8 @@ module _ (R : Rules) where
 
   -- One call. A compartment is opened only for a record that passes the sender check, and it is that bank's.
   abbrev pub act : Call → List ℕ → ℕ → Bool → Bool → Outcome Answer
-  act c l n true true = record { reply = answer (judge c (compartment (bank c) l)); ledger = put size (bank c) (next c (compartment (bank c) l)) l }
-  act c l n true false = record { reply = answer (stranger c); ledger = l }
+  act c l n true true = record { reply = accepted (judge c (compartment (bank c) l)); ledger = put size (bank c) (next c (compartment (bank c) l)) l }
+  act c l n true false = record { reply = accepted (stranger c); ledger = l }
   act c l n false b = record { reply = refused n; ledger = l }
 
   unfoldable pub single : Call → List ℕ → Outcome Answer
@@ -69,7 +67,7 @@ module _ (R : Rules) where
   ownReplies r [] ws = []
   ownReplies r (c ∷ cs) [] = []
   ownReplies r (c ∷ cs) (refused n ∷ ws) = ownReplies r cs ws
-  ownReplies r (c ∷ cs) (answer a ∷ ws) = cond (eqb (bank c) r) (a ∷ ownReplies r cs ws) (ownReplies r cs ws)
+  ownReplies r (c ∷ cs) (accepted a ∷ ws) = cond (eqb (bank c) r) (a ∷ ownReplies r cs ws) (ownReplies r cs ws)
 
   abbrev pub answersFor : ℕ → List Call → List ℕ → List Answer
   answersFor r cs l = ownReplies r cs (replies cs l)
@@ -96,19 +94,20 @@ module _ (R : Rules) where
   bankAfterBank zero cs = []
   bankAfterBank (suc n) cs = bankAfterBank n cs ++ steps n cs
 
-  -- The claim, of a list of calls and the ledger that it starts on.
+  -- The claim, of a list of calls and the ledger that it starts on. Each field stands under the words of document 01, "The lone copy of demand 3".
   pub record Isolated (cs : List Call) (l : List ℕ) : Type 0 where
-    -- the sentence on what is compared, its first half: the lone copy's answers are those of the same calls, in order
+    -- "Compared are all bytes: its answers with those of the same calls, in order, .."
     pub answers : (r : ℕ) → r < banks → answersFor r cs l ≡ loneAnswers (steps r cs) (compartment r l)
-    -- its second half: the lone copy's last state is compartment r after the list
+    -- ".. and its last state with compartment r after the list."
     pub states : (r : ℕ) → r < banks → compartment r (ledgerAfter cs l) ≡ loneState (steps r cs) (compartment r l)
-    -- the sentence on what is no step, its aside: the ledger stays sound
+    -- ".. the ledger staying sound .."
     pub staysSound : soundLedger (ledgerAfter cs l) ≡ true
-    -- the rest of that aside: no call is refused for the ledger; each is refused just as on a sound one
-    pub refusals : map refusedBy (replies cs l) ≡ map (λ c. refusal c true) cs
-    -- that sentence itself: one call more that is a step for no bank, refused or not, leaves the ledger
+    -- ".. 4 never applies ..": each call is refused just as on a sound ledger
+    pub refusals : map refusalIn (replies cs l) ≡ map (λ c. refusal c true) cs
+    -- "A refused call (..) and a record that doesn't pass the sender check for r are no step.": one call more that is a step for no bank leaves the ledger
     pub idle : (c : Call) → ((r : ℕ) → r < banks → isStep r c ≡ false) → ledgerAfter (cs ++ (c ∷ [])) l ≡ ledgerAfter cs l
-    -- the sentence on bank after bank: the same last ledger
+    -- "Bank after bank, from the same starting ledger: first the calls that are steps for bank 0, in list order, then those for bank 1, up to 15; the
+    -- others are left out.": the same last ledger
     pub sameLedger : ledgerAfter (bankAfterBank banks cs) l ≡ ledgerAfter cs l
     -- and each bank's answers are the same
     pub sameAnswers : (r : ℕ) → r < banks → answersFor r (bankAfterBank banks cs) l ≡ answersFor r cs l

@@ -10,10 +10,10 @@ use native.Mathlib.Omega.{arith}
 use lib.ListN.{length, getD, take}
 use lib.Seq.{take-suc}
 use Rattle.text.specs.Class.{isDigit}
-use Rattle.identifier.specs.Isin.{valueOf, digitsOf, digits, doubled, weighted, digitSum}
+use Rattle.identifier.specs.Isin.{letterValue, digitsOf, digits, doubled, weighted, digitSum}
 
 -- a byte is one digit, or two of which the last comes first in the sum
-module _ (f : Bool) (b : ℕ) {v : ℕ} (e : v ≡ valueOf b) where
+module _ (f : Bool) (b : ℕ) {v : ℕ} (e : v ≡ letterValue b) where
   pub weighted-digit : {r : Bool} {m : ℕ} → r ≡ isDigit b → r ≡ true → m ≡ cond f (doubled v) v → m ≡ weighted f (reverse (digitsOf b))
   unfolding digitsOf weighted
   weighted-digit q t p = rw (← q, t, ← e) (omega (arith, p))

@@ -14,12 +14,12 @@ unfoldable pub isinForm : List ℕ → Bool
 isinForm s = eqb (length s) 12 && all isCapital (take 2 s) && all isCapitalOrDigit (take 9 (drop 2 s)) && all isDigit (drop 11 s)
 
 -- the value of a digit; a letter becomes 10 to 35
-unfoldable pub valueOf : ℕ → ℕ
-valueOf b = cond (isDigit b) (b - code "0") (b - code "A" + 10)
+unfoldable pub letterValue : ℕ → ℕ
+letterValue b = cond (isDigit b) (b - code "0") (b - code "A" + 10)
 
 -- the digits of a value, one or two, and those that a text becomes, in order
 unfoldable pub digitsOf : ℕ → List ℕ
-digitsOf b = cond (isDigit b) (valueOf b ∷ []) (valueOf b / 10 ∷ valueOf b % 10 ∷ [])
+digitsOf b = cond (isDigit b) (letterValue b ∷ []) (letterValue b / 10 ∷ letterValue b % 10 ∷ [])
 
 unfoldable pub digits : List ℕ → List ℕ
 digits [] = []
@@ -40,7 +40,7 @@ digitSum s = weighted true (reverse (digits s))
 
 -- "check digit" is right: the sum with it is a multiple of 10. It is the twelfth byte
 unfoldable pub checkDigitRight : List ℕ → Bool
-checkDigitRight s = eqb ((digitSum (take 11 s) + valueOf (getD s 11 0)) % 10) 0
+checkDigitRight s = eqb ((digitSum (take 11 s) + letterValue (getD s 11 0)) % 10) 0
 
 -- a valid ISIN: of the form, with the right check digit
 abbrev pub validIsin : List ℕ → Bool

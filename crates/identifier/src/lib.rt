@@ -9,7 +9,7 @@ ghost use Rattle.text.specs.Bytes.{same};
 ghost use Rattle.text.specs.Text.{bytes};
 ghost use Rattle.identifier.specs.Identifier.{bankCode, swiftForm, sameAddress, nameUpTo};
 ghost use Rattle.identifier.specs.Isin.{isinForm, checkDigitRight, validIsin};
-ghost use Rattle.identifier.specs.Isin.{valueOf, digitsOf, doubled, weighted, digitSum};
+ghost use Rattle.identifier.specs.Isin.{letterValue, digitsOf, doubled, weighted, digitSum};
 use text::Class;
 
 // Whether s is a bank code.
@@ -33,7 +33,7 @@ fn is_completion<'a>(s: &'a [u8], t: &'a [u8]) -> bool
     requires { ⌜ length (now s) ≡ 8 ⌝ }
     ensures { λ r. ⌜ r ≡ same (now (s .entry) ++ bytes "XXX") (now (t .entry)) ⌝ }
 {
-    t.len() == 11 && (text::equal(s, text::front(t, 8)) & text::equal(b"XXX", text::rest(t, 8)))
+    t.len() == 11 && (text::same(s, text::front(t, 8)) & text::same(b"XXX", text::rest(t, 8)))
 }
 
 // Whether two addresses are the same, eight bytes meaning the same with XXX added.
@@ -41,7 +41,7 @@ pub fn same_address<'a>(s: &'a [u8], t: &'a [u8]) -> bool
     ensures { λ r. ⌜ r ≡ sameAddress (now (s .entry)) (now (t .entry)) ⌝ }
 {
     if s.len() == t.len() {
-        return text::equal(s, t);
+        return text::same(s, t);
     }
     if s.len() == 8 {
         return is_completion(s, t);
@@ -78,7 +78,7 @@ fn minus(x: u8, y: u8) -> u64
 
 // The value of a digit or a letter.
 fn value_of(b: u8) -> u64
-    ensures { λ r. ⌜ (r ≡ valueOf b) × (r ≤ 255) ⌝ }
+    ensures { λ r. ⌜ (r ≡ letterValue b) × (r ≤ 255) ⌝ }
 {
     if text::belongs(Class::Digit, b) {
         minus(b, b'0')

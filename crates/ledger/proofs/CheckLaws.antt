@@ -18,7 +18,7 @@ use Rattle.text.specs.Class.{isZero}
 use Rattle.text.specs.Bytes.{all}
 use Rattle.text.specs.Number.{numberAt}
 use Rattle.text.proofs.ByteLaws.{all-get, all-split}
-use Rattle.ledger.specs.Row.{rowSize, free, live, cancelled, cancellation, noPartner, state, filled, number, partner, rowForm}
+use Rattle.ledger.specs.Row.{rowSize, free, live, cancelled, cancellation, noPartner, state, filledRow, number, partner, rowForm}
 use Rattle.ledger.specs.Sound.{Rows, rowsOf, rowCount, compartmentSize, pointsBack, linked, precedes, soundRow}
 use Rattle.ledger.proofs.FormLaws.{both-ways, same-words}
 use Rattle.ledger.proofs.SoundLaws.{row-length, filled-row, earlier-filled}
@@ -31,12 +31,12 @@ pub and-stops : (a b : Bool) → a ≡ false → a ≡ a && b
 and-stops a b h = rw h
 
 -- a filled row is sound where it has the form, another number than the rows before it, and the links that its state asks
-sound-filled : (ρ : Rows) (k : ℕ) → filled (ρ k) ≡ true → soundRow ρ k ≡ (rowForm (ρ k) && (every k (precedes ρ (number (ρ k))) && linked ρ k))
+sound-filled : (ρ : Rows) (k : ℕ) → filledRow (ρ k) ≡ true → soundRow ρ k ≡ (rowForm (ρ k) && (every k (precedes ρ (number (ρ k))) && linked ρ k))
 unfolding soundRow
 sound-filled ρ k h = rw (not-true (eqb (state (ρ k)) free) h)
 
 -- which test decides on a filled row, where the code has read the row w: its form, then its number, then its links
-module _ (ρ : Rows) (k : ℕ) (full : filled (ρ k) ≡ true) {w : List ℕ} {form : Bool} (e : w ≡ ρ k) (f : form ≡ rowForm w) where
+module _ (ρ : Rows) (k : ℕ) (full : filledRow (ρ k) ≡ true) {w : List ℕ} {form : Bool} (e : w ≡ ρ k) (f : form ≡ rowForm w) where
   pub form-decides : form ≡ false → form ≡ soundRow ρ k
   form-decides h = f ∙ ap rowForm e ∙ and-stops _ _ (sym (f ∙ ap rowForm e) ∙ h) ∙ sym (sound-filled ρ k full)
 
@@ -53,7 +53,7 @@ sound-free ρ k e = rw e
 
 -- A filled row, and the sound and filled rows before it, whose numbers are compared by their words.
 module _ (c : List ℕ) (k : ℕ) (l : length c ≡ compartmentSize) (h : k < rowCount) (sound : every k (soundRow (rowsOf c)) ≡ true)
-    (full : every k (λ j. filled (rowsOf c j)) ≡ true) (form : rowForm (rowsOf c k) ≡ true) where
+    (full : every k (λ j. filledRow (rowsOf c j)) ≡ true) (form : rowForm (rowsOf c k) ≡ true) where
   earlier-form : (j : ℕ) → j < k → rowForm (rowsOf c j) ≡ true
   earlier-form j m =
       and-left (rowForm (rowsOf c j)) _ (sym (sound-filled (rowsOf c) j (every-at k _ full j m)) ∙ every-at k _ sound j m)
@@ -63,7 +63,7 @@ module _ (c : List ℕ) (k : ℕ) (l : length c ≡ compartmentSize) (h : k < ro
       → precedes (rowsOf c) (number (rowsOf c k)) j ≡ not r
   unfolding precedes
   precedes-words j m {v} {w} {first} {second} {r} ev ew ef es er =
-      rw (every-at k (λ i. filled (rowsOf c i)) full j m)
+      rw (every-at k (λ i. filledRow (rowsOf c i)) full j m)
       (ap not
       (same-words (rowsOf c j) (rowsOf c k) (row-length c l j (omega arith)) (row-length c l k h) (earlier-form j m) form
       ∙ sym (er ∙ rw (ev, es, ef, ew))))

@@ -1,22 +1,21 @@
--- Laws of the look-ups: what a search through the rows of a compartment knows and finds, by the last byte of a number too, and what a count comes to.
+-- Laws of the look-ups: what a search through the rows of a compartment knows and finds, by the last byte of a number too.
 -- Assumes nothing.
 use Prim.Native.Nat.{ℕ, _+_, _-_, _≤_, _<_, zero-le}
 use native.Mathlib.Decide.{ℕ-discrete, decLt}
 use native.Mathlib.Omega.{arith}
-use mathlib.Core.Bool.{Bool, true, false, _&&_}
+use mathlib.Core.Bool.{Bool, true, false, _&&_, _||_, not}
 use mathlib.Core.List.{List}
 use mathlib.Core.Path.{_≡_, refl, ap, sym, _∙_}
-use borrow.Author.Tests.{eq-eqb, ne-eqb, eqb-false}
+use borrow.Author.Tests.{eq-eqb, ne-eqb, eqb-true, eqb-false}
 use lib.Dec.{eqb}
 use lib.ListN.{length, getD, drop, length-take}
 use lib.Seq.{getD-take, getD-drop}
-use Rattle.frame.specs.Every.{howMany}
-use Rattle.frame.proofs.BoolLaws.{and-false}
+use Rattle.frame.proofs.BoolLaws.{and-false, or-false}
 use Rattle.frame.proofs.LeastLaws.{least-is, least-none}
 use Rattle.text.proofs.ByteLaws.{same-true}
-use Rattle.ledger.specs.Row.{filled, number, numberLength}
+use Rattle.ledger.specs.Row.{free, live, state, number, numberLength}
 use Rattle.ledger.specs.Sound.{Rows, rowsOf, rowCount, compartmentSize}
-use Rattle.ledger.specs.Lookup.{NoneIn, FirstFrom, isNamed, firstRow, filledRows}
+use Rattle.ledger.specs.Lookup.{NoneIn, FirstFrom, isAsked, isNamed, isAskedRow, firstRow, rowByNumber, liveRow}
 
 -- what a search from a row on knows: at its start, and after a row more that doesn't pass
 module _ (p : ℕ → Bool) (from : ℕ) where
@@ -78,11 +77,18 @@ none-ending ρ n from to h f j g l = go (isNamed ρ n j) refl
     go true e = absurd (eqb-false _ _ (f j g l) (number-end (ρ j) n (same-true (number (ρ j)) n e) h))
     go false e = refl
 
-pub filled-of-none : (c : List ℕ) → (length c ≡ compartmentSize → ⊥) → 0 ≡ filledRows c
-unfolding filledRows
-filled-of-none c n = rw (ne-eqb _ _ n)
+-- the two searches for a number ask for any filled row, and for a live one
+asked-filled : (s : ℕ) → isAsked true s ≡ not (eqb s free)
+asked-filled s = go (eqb s live) refl
+  where
+    go : (b : Bool) → eqb s live ≡ b → (b || not (eqb s free)) ≡ not (eqb s free)
+    go true e = let h : s ≡ live = eqb-true _ _ e in rw h refl
+    go false e = refl
 
-pub filled-counted : (c : List ℕ) (n k : ℕ) → length c ≡ compartmentSize → k ≤ rowCount → rowCount ≤ k
-    → n ≡ howMany k (λ j. filled (rowsOf c j)) → n ≡ filledRows c
-unfolding filledRows
-filled-counted c n k l h g e = let q : k ≡ rowCount = omega arith in rw (eq-eqb _ _ l) (e ∙ rw q)
+pub row-filled : (c n : List ℕ) → firstRow c (isAskedRow true (rowsOf c) n) ≡ rowByNumber c n
+unfolding rowByNumber
+row-filled c n i = firstRow c (λ k. asked-filled (state (rowsOf c k)) i && isNamed (rowsOf c) n k)
+
+pub row-live : (c n : List ℕ) → firstRow c (isAskedRow false (rowsOf c) n) ≡ liveRow c n
+unfolding liveRow
+row-live c n i = firstRow c (λ k. or-false (eqb (state (rowsOf c k)) live) i && isNamed (rowsOf c) n k)

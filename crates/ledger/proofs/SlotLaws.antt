@@ -14,7 +14,7 @@ use lib.Seq.{getD-set-same, getD-set-other}
 use Rattle.frame.specs.Every.{every}
 use Rattle.frame.proofs.EveryLaws.{every-intro}
 use Rattle.text.specs.Number.{numberAt}
-use Rattle.ledger.specs.Row.{filled, number, rowForm}
+use Rattle.ledger.specs.Row.{filledRow, number, rowForm}
 use Rattle.ledger.specs.Sound.{rowsOf, rowCount, compartmentSize, precedes, soundRow}
 use Rattle.ledger.specs.Slots.{slotOf, Fresh}
 use Rattle.ledger.proofs.CheckLaws.{precedes-words}
@@ -29,7 +29,7 @@ words-differ v w n = go _ _ refl refl
     go false b p q = refl
 
 module _ (c : List ℕ) (k : ℕ) (l : length c ≡ compartmentSize) (h : k < rowCount) (sound : every k (soundRow (rowsOf c)) ≡ true)
-    (full : every k (λ j. filled (rowsOf c j)) ≡ true) (form : rowForm (rowsOf c k) ≡ true) where
+    (full : every k (λ j. filledRow (rowsOf c j)) ≡ true) (form : rowForm (rowsOf c k) ≡ true) where
   pub fresh-new : Fresh (rowsOf c) k → true ≡ every k (precedes (rowsOf c) (number (rowsOf c k)))
   fresh-new f =
       sym (every-intro k _ (λ j m. precedes-words c k l h sound full form j m refl refl refl refl refl

@@ -16,7 +16,7 @@ use Rattle.frame.proofs.EveryLaws.{every-at, every-intro, every-same}
 use Rattle.frame.proofs.LeastLaws.{least-hit, least-below}
 use Rattle.frame.proofs.PartLaws.{part-length}
 use Rattle.text.specs.Bytes.{same}
-use Rattle.ledger.specs.Row.{rowSize, free, live, cancelled, cancellation, noPartner, state, filled, number, partner, rowForm}
+use Rattle.ledger.specs.Row.{rowSize, free, live, cancelled, cancellation, noPartner, state, filledRow, number, partner, rowForm}
 use Rattle.ledger.specs.Sound.{rowCount, compartmentSize, Rows, rowsOf, pointsBack, linked, precedes, soundRow, soundCompartment}
 use Rattle.ledger.specs.Lookup.{firstRow, isFree, hasNumber, isLive, freeRow, rowByNumber, liveRow}
 
@@ -60,7 +60,7 @@ module _ (ρ : Rows) (k : ℕ) where
   -- a row before a filled one is filled
   pub earlier-filled : Filled ρ k → (j : ℕ) → j < k → state (ρ j) ≢ free
   unfolding precedes
-  earlier-filled F j h = eqb-false _ _ (not-true _ (and-left (filled (ρ j)) _ (every-at k _ (F .earlier) j h)))
+  earlier-filled F j h = eqb-false _ _ (not-true _ (and-left (filledRow (ρ j)) _ (every-at k _ (F .earlier) j h)))
 
 -- a link is kept where the rows that take part in links stay
 chosen-kept : (b d x l m m′ u v w w′ : Bool) → (l ≡ true → m ≡ true → m′ ≡ true) → (v ≡ true → w ≡ true → w′ ≡ true)
@@ -156,10 +156,10 @@ module _ (ρ σ : Rows) (p f : ℕ) (ph : p < f) (fh : f < rowCount) (sound : (k
       go (no n) (yes e) = rw e (atF .named)
       go (no n) (no m) = rw (other q qh n m)
 
-  same-filled : (q : ℕ) → q < rowCount → filled (σ q) ≡ filled (ρ q)
+  same-filled : (q : ℕ) → q < rowCount → filledRow (σ q) ≡ filledRow (ρ q)
   same-filled q qh = go (ℕ-discrete q p) (ℕ-discrete q f)
     where
-      go : Dec (q ≡ p) → Dec (q ≡ f) → filled (σ q) ≡ filled (ρ q)
+      go : Dec (q ≡ p) → Dec (q ≡ f) → filledRow (σ q) ≡ filledRow (ρ q)
       go (yes e) d = rw (e, atP .stated, liveP)
       go (no n) (yes e) = rw (e, atF .stated, liveF)
       go (no n) (no m) = rw (other q qh n m)

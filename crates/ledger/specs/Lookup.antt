@@ -1,14 +1,14 @@
--- What is looked up in a compartment: the lowest free row, rows by their number, the count of filled rows. A compartment of another length has no row.
+-- What is looked up in a compartment: the lowest free row, rows by their number. A compartment of another length has no row.
 -- Assumes nothing.
 use Prim.Native.Nat.{ℕ, _≤_, _<_}
-use mathlib.Core.Bool.{Bool, true, false, _&&_, cond}
+use mathlib.Core.Bool.{Bool, true, false, _&&_, _||_, not, cond}
 use mathlib.Core.List.{List}
 use mathlib.Core.Path.{_≡_}
 use lib.Dec.{eqb}
 use lib.ListN.{length}
-use Rattle.frame.specs.Every.{least, howMany}
+use Rattle.frame.specs.Every.{least}
 use Rattle.text.specs.Bytes.{same}
-use Rattle.ledger.specs.Row.{free, live, state, filled, number}
+use Rattle.ledger.specs.Row.{free, live, state, filledRow, number}
 use Rattle.ledger.specs.Sound.{Rows, rowsOf, rowCount, compartmentSize}
 
 -- the first row that passes, 64 where none does
@@ -34,10 +34,17 @@ abbrev pub isNamed : Rows → List ℕ → ℕ → Bool
 isNamed ρ n k = same (number (ρ k)) n
 
 abbrev pub hasNumber : Rows → List ℕ → ℕ → Bool
-hasNumber ρ n k = filled (ρ k) && isNamed ρ n k
+hasNumber ρ n k = filledRow (ρ k) && isNamed ρ n k
 
 abbrev pub isLive : Rows → List ℕ → ℕ → Bool
 isLive ρ n k = eqb (state (ρ k)) live && isNamed ρ n k
+
+-- a state that a search for a number asks for: live, or with the flag any but free
+abbrev pub isAsked : Bool → ℕ → Bool
+isAsked any s = eqb s live || any && not (eqb s free)
+
+abbrev pub isAskedRow : Bool → Rows → List ℕ → ℕ → Bool
+isAskedRow any ρ n k = isAsked any (state (ρ k)) && isNamed ρ n k
 
 -- the lowest free row
 unfoldable pub freeRow : List ℕ → ℕ
@@ -50,7 +57,3 @@ rowByNumber c n = firstRow c (hasNumber (rowsOf c) n)
 -- the live row with the number n
 unfoldable pub liveRow : List ℕ → List ℕ → ℕ
 liveRow c n = firstRow c (isLive (rowsOf c) n)
-
--- how many rows are filled
-unfoldable pub filledRows : List ℕ → ℕ
-filledRows c = cond (eqb (length c) compartmentSize) (howMany rowCount (λ k. filled (rowsOf c k))) 0

@@ -34,8 +34,8 @@ cancellation = 3
 abbrev pub state : List ℕ → ℕ
 state w = getD w statePlace 0
 
-abbrev pub filled : List ℕ → Bool
-filled w = not (eqb (state w) free)
+abbrev pub filledRow : List ℕ → Bool
+filledRow w = not (eqb (state w) free)
 
 -- byte 1: the length of the number. Bytes 2-17: the number, then zeros
 abbrev pub lengthPlace : ℕ

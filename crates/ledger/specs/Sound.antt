@@ -9,7 +9,7 @@ use Rattle.frame.specs.Every.{every}
 use Rattle.frame.specs.Parts.{part}
 use Rattle.text.specs.Class.{isZero}
 use Rattle.text.specs.Bytes.{all, same}
-use Rattle.ledger.specs.Row.{rowSize, free, live, cancelled, cancellation, noPartner, state, filled, number, partner, rowForm}
+use Rattle.ledger.specs.Row.{rowSize, free, live, cancelled, cancellation, noPartner, state, filledRow, number, partner, rowForm}
 
 -- rows of a compartment, its bytes, compartments of a ledger, its bytes
 abbrev pub rowCount : ℕ
@@ -44,7 +44,7 @@ linked ρ k =
 
 -- what holds of each row j before a filled row with the number n: it is filled, and its number is another
 unfoldable pub precedes : Rows → List ℕ → ℕ → Bool
-precedes ρ n j = filled (ρ j) && not (same (number (ρ j)) n)
+precedes ρ n j = filledRow (ρ j) && not (same (number (ρ j)) n)
 
 -- a free row is all zero; a filled row has the form, follows filled rows with other numbers, and is linked as its state asks
 unfoldable pub soundRow : Rows → ℕ → Bool

@@ -7,11 +7,11 @@ ghost use lib.ListN.{length, getD};
 ghost use Rattle.frame.specs.Every.{every};
 ghost use Rattle.text.specs.Bytes.{same};
 ghost use Rattle.text.specs.Number.{numberAt};
-ghost use Rattle.ledger.specs.Row.{rowSize, live, state, filled, number, numberPadding, partner, isSide, rowForm};
+ghost use Rattle.ledger.specs.Row.{rowSize, state, filledRow, number, numberPadding, partner, isSide, rowForm};
 ghost use Rattle.ledger.specs.Sound.{rowCount, compartmentSize, rowsOf, pointsBack, linked, precedes, soundRow, soundCompartment};
 ghost use Rattle.ledger.specs.Sound.{soundLedger};
 ghost use Rattle.ledger.specs.Slots.{slotCount, slotOf, Fresh};
-ghost use Rattle.ledger.specs.Lookup.{NoneIn, FirstFrom, isNamed, freeRow, rowByNumber, liveRow, filledRows};
+ghost use Rattle.ledger.specs.Lookup.{NoneIn, FirstFrom, isAsked, isNamed, isAskedRow, firstRow, freeRow, rowByNumber, liveRow};
 use text::Class;
 
 pub const ROW_SIZE: usize = 32;
@@ -53,17 +53,11 @@ pub const NUMBER_ROOM: usize = 16;
 
 const LARGEST_QUANTITY: u64 = 9_999_999_999_999_999_999;
 
-const NO_PARTNER: usize = 65535;
+// What stands for no partner.
+pub const NO_PARTNER: u16 = 65535;
 
 // The slots of the test for doubles; neighbouring decimal numbers fall into different ones of so many.
 const SLOT_COUNT: usize = 499;
-
-// A byte as a size.
-fn wide(b: u8) -> usize
-    ensures { λ r. ⌜ r ≡ b ⌝ }
-{
-    b as usize
-}
 
 // Row k of a compartment.
 fn row(c: &[u8], k: usize) -> &[u8]
@@ -80,7 +74,10 @@ fn number_of(w: &[u8]) -> &[u8]
     requires { ⌜ length (now w) ≡ rowSize ⌝ }
     ensures { λ r. ⌜ now r ≡ number (now (w .entry)) ⌝ }
 {
-    text::front(text::rest(w, NUMBER_PLACE), wide(w[LENGTH_PLACE]))
+    text::front(
+        text::rest(w, NUMBER_PLACE),
+        text::wide(w[LENGTH_PLACE]) as usize,
+    )
 }
 
 // What is left of the room for the number of a row.
@@ -90,7 +87,7 @@ fn padding_of(w: &[u8]) -> &[u8]
 {
     text::rest(
         text::front(text::rest(w, NUMBER_PLACE), NUMBER_ROOM),
-        wide(w[LENGTH_PLACE]),
+        text::wide(w[LENGTH_PLACE]) as usize,
     )
 }
 
@@ -140,7 +137,7 @@ fn is_linked(c: &[u8], k: usize) -> bool
     let w = row(c, k);
     let p = partner_of(w);
     if w[STATE_PLACE] == LIVE {
-        return p == NO_PARTNER;
+        return p == NO_PARTNER as usize;
     }
     if w[STATE_PLACE] == CANCELLATION {
         return p < k && points_back(c, p, CANCELLED, k);
@@ -158,7 +155,7 @@ fn has_words(w: &[u8], first: u64, second: u64) -> bool
 // Whether the rows before row k, which are sound, have other numbers.
 fn is_new_number(c: &[u8], k: usize) -> bool
     requires { ⌜ (length (now c) ≡ compartmentSize) × (k < rowCount) ⌝ }
-    requires { ⌜ (every k (soundRow (rowsOf (now c))) ≡ true) × (every k (λ j. filled (rowsOf (now c) j)) ≡ true) ⌝ }
+    requires { ⌜ (every k (soundRow (rowsOf (now c))) ≡ true) × (every k (λ j. filledRow (rowsOf (now c) j)) ≡ true) ⌝ }
     requires { ⌜ rowForm (rowsOf (now c) k) ≡ true ⌝ }
     ensures { λ r. ⌜ r ≡ every k (precedes (rowsOf (now (c .entry))) (number (rowsOf (now (c .entry)) k))) ⌝ }
 {
@@ -187,7 +184,7 @@ fn slot_of(w: &[u8]) -> usize
 // Whether the rows before row k, which are sound, have other numbers: at once where its slot is fresh, else pair by pair.
 fn is_other_number(c: &[u8], k: usize, fresh: bool) -> bool
     requires { ⌜ (length (now c) ≡ compartmentSize) × (k < rowCount) ⌝ }
-    requires { ⌜ (every k (soundRow (rowsOf (now c))) ≡ true) × (every k (λ j. filled (rowsOf (now c) j)) ≡ true) ⌝ }
+    requires { ⌜ (every k (soundRow (rowsOf (now c))) ≡ true) × (every k (λ j. filledRow (rowsOf (now c) j)) ≡ true) ⌝ }
     requires { ⌜ rowForm (rowsOf (now c) k) ≡ true ⌝ }
     requires { ⌜ (fresh ≡ true → Fresh (rowsOf (now c)) k) ⌝ }
     ensures { λ r. ⌜ r ≡ every k (precedes (rowsOf (now (c .entry))) (number (rowsOf (now (c .entry)) k))) ⌝ }
@@ -201,8 +198,8 @@ fn is_other_number(c: &[u8], k: usize, fresh: bool) -> bool
 // Whether row k, which is filled, is sound after the sound and filled rows before it; fresh where its slot is.
 fn is_sound_filled(c: &[u8], k: usize, fresh: bool) -> bool
     requires { ⌜ (length (now c) ≡ compartmentSize) × (k < rowCount) ⌝ }
-    requires { ⌜ (every k (soundRow (rowsOf (now c))) ≡ true) × (every k (λ j. filled (rowsOf (now c) j)) ≡ true) ⌝ }
-    requires { ⌜ filled (rowsOf (now c) k) ≡ true ⌝ }
+    requires { ⌜ (every k (soundRow (rowsOf (now c))) ≡ true) × (every k (λ j. filledRow (rowsOf (now c) j)) ≡ true) ⌝ }
+    requires { ⌜ filledRow (rowsOf (now c) k) ≡ true ⌝ }
     requires { ⌜ (fresh ≡ true → Fresh (rowsOf (now c)) k) ⌝ }
     ensures { λ r. ⌜ r ≡ soundRow (rowsOf (now (c .entry))) k ⌝ }
 {
@@ -280,20 +277,19 @@ pub fn free_row(c: &[u8]) -> usize
     next_with(c, 0, STATE_PLACE, FREE)
 }
 
-// Whether the number of a row is n.
-fn is_number<'a>(w: &'a [u8], n: &'a [u8]) -> bool
-    requires { ⌜ length (now w) ≡ rowSize ⌝ }
-    ensures { λ r. ⌜ r ≡ same (number (now (w .entry))) (now (n .entry)) ⌝ }
+// Whether a state is one that a search for a number asks for: live, or with `any` every state but free.
+fn is_asked(state: u8, any: bool) -> bool
+    ensures { λ r. ⌜ r ≡ isAsked any state ⌝ }
 {
-    text::equal(number_of(w), n)
+    (state == LIVE) | any & !(state == FREE)
 }
 
-// Whether a row is filled and its number is n.
-fn is_filled_with<'a>(w: &'a [u8], n: &'a [u8]) -> bool
+// Whether the state of a row is asked for, and its number is n.
+fn is_asked_with<'a>(w: &'a [u8], n: &'a [u8], any: bool) -> bool
     requires { ⌜ length (now w) ≡ rowSize ⌝ }
-    ensures { λ r. ⌜ r ≡ (filled (now (w .entry)) && same (number (now (w .entry))) (now (n .entry))) ⌝ }
+    ensures { λ r. ⌜ r ≡ (isAsked any (state (now (w .entry))) && same (number (now (w .entry))) (now (n .entry))) ⌝ }
 {
-    w[STATE_PLACE] != FREE && is_number(w, n)
+    is_asked(w[STATE_PLACE], any) && text::same(number_of(w), n)
 }
 
 // The next row, from a row on, that may have the number n: the last byte of n stands in it where the number would end. Numbers begin alike, so
@@ -312,16 +308,16 @@ fn next_ending<'a>(c: &'a [u8], from: usize, n: &'a [u8]) -> usize
     next_with(c, from, size + 1, n[size - 1])
 }
 
-// The row of a compartment with the number n, 64 where none has it.
-pub fn row_by_number<'a>(c: &'a [u8], n: &'a [u8]) -> usize
-    ensures { λ r. ⌜ r ≡ rowByNumber (now (c .entry)) (now (n .entry)) ⌝ }
+// The first row of a compartment with the number n whose state is asked for, 64 where there is none.
+fn row_asked<'a>(c: &'a [u8], n: &'a [u8], any: bool) -> usize
+    ensures { λ r. ⌜ r ≡ firstRow (now (c .entry)) (isAskedRow any (rowsOf (now (c .entry))) (now (n .entry))) ⌝ }
 {
     if c.len() != COMPARTMENT_SIZE {
         return ROW_COUNT;
     }
     let mut k = next_ending(c, 0, n);
     while k < ROW_COUNT {
-        if is_filled_with(row(c, k), n) {
+        if is_asked_with(row(c, k), n, any) {
             return k;
         }
         k = next_ending(c, k + 1, n);
@@ -329,48 +325,16 @@ pub fn row_by_number<'a>(c: &'a [u8], n: &'a [u8]) -> usize
     ROW_COUNT
 }
 
-// Whether a row is live and its number is n.
-fn is_live_with<'a>(w: &'a [u8], n: &'a [u8]) -> bool
-    requires { ⌜ length (now w) ≡ rowSize ⌝ }
-    ensures { λ r. ⌜ r ≡ (eqb (state (now (w .entry))) live && same (number (now (w .entry))) (now (n .entry))) ⌝ }
+// The row of a compartment with the number n, 64 where none has it.
+pub fn row_by_number<'a>(c: &'a [u8], n: &'a [u8]) -> usize
+    ensures { λ r. ⌜ r ≡ rowByNumber (now (c .entry)) (now (n .entry)) ⌝ }
 {
-    w[STATE_PLACE] == LIVE && is_number(w, n)
+    row_asked(c, n, true)
 }
 
 // The live row of a compartment with the number n, 64 where none has it.
 pub fn live_row<'a>(c: &'a [u8], n: &'a [u8]) -> usize
     ensures { λ r. ⌜ r ≡ liveRow (now (c .entry)) (now (n .entry)) ⌝ }
 {
-    if c.len() != COMPARTMENT_SIZE {
-        return ROW_COUNT;
-    }
-    let mut k = next_ending(c, 0, n);
-    while k < ROW_COUNT {
-        if is_live_with(row(c, k), n) {
-            return k;
-        }
-        k = next_ending(c, k + 1, n);
-    }
-    ROW_COUNT
-}
-
-// How many rows of a compartment are filled; none where it has another length.
-pub fn filled_rows(c: &[u8]) -> usize
-    ensures { λ r. ⌜ r ≡ filledRows (now (c .entry)) ⌝ }
-{
-    if c.len() != COMPARTMENT_SIZE {
-        return 0;
-    }
-    let mut n: usize = 0;
-    let mut k = 0;
-    while k < ROW_COUNT {
-        let w = row(c, k);
-        if w[STATE_PLACE] != FREE {
-            n += 1;
-            k += 1;
-        } else {
-            k += 1;
-        }
-    }
-    n
+    row_asked(c, n, false)
 }

@@ -18,6 +18,6 @@ abbrev pub typed : Page → ℕ → Page
 typed p b = cond (ltb (p .end) (length (p .buffer))) (page (set (p .buffer) (p .end) b) (suc (p .end))) p
 
 -- a text more
-unfoldable pub written : Page → List ℕ → Page
-written p [] = p
-written p (b ∷ t) = written (typed p b) t
+unfoldable pub appended : Page → List ℕ → Page
+appended p [] = p
+appended p (b ∷ t) = appended (typed p b) t

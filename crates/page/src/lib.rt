@@ -2,12 +2,12 @@
 ghost use mathlib.Core.Path.{_≡_};
 ghost use Prim.Native.Nat.{_%_};
 ghost use Rattle.io.specs.Digits.{glyph};
-ghost use Rattle.page.specs.Page.{page, written};
+ghost use Rattle.page.specs.Page.{page, appended};
 ghost use Rattle.page.specs.Number.{numberText, codeText};
 
 // Writes a piece from a place on, as far as there is room, and answers where it ends.
 pub fn append(out: &mut [u8], at: usize, piece: &[u8]) -> usize
-    ensures { λ r. ⌜ page (now (out .exit)) r ≡ written (page (now (out .entry)) at) (now (piece .entry)) ⌝ }
+    ensures { λ r. ⌜ page (now (out .exit)) r ≡ appended (page (now (out .entry)) at) (now (piece .entry)) ⌝ }
 {
     let mut end = at;
     let mut i = 0;
@@ -24,7 +24,7 @@ pub fn append(out: &mut [u8], at: usize, piece: &[u8]) -> usize
 
 // Writes a number in as many decimal digits as it has.
 pub fn append_number(out: &mut [u8], at: usize, n: u64) -> usize
-    ensures { λ r. ⌜ page (now (out .exit)) r ≡ written (page (now (out .entry)) at) (numberText n) ⌝ }
+    ensures { λ r. ⌜ page (now (out .exit)) r ≡ appended (page (now (out .entry)) at) (numberText n) ⌝ }
 {
     let mut digits = [0u8; 20];
     let k = io::decimal(n, &mut digits);
@@ -40,7 +40,7 @@ fn digit(n: u16) -> u8
 
 // Writes a code in four decimal digits.
 pub fn append_code(out: &mut [u8], at: usize, code: u16) -> usize
-    ensures { λ r. ⌜ page (now (out .exit)) r ≡ written (page (now (out .entry)) at) (codeText code) ⌝ }
+    ensures { λ r. ⌜ page (now (out .exit)) r ≡ appended (page (now (out .entry)) at) (codeText code) ⌝ }
 {
     let tens = code / 10;
     let hundreds = tens / 10;

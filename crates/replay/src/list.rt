@@ -2,7 +2,7 @@
 use crate::banks::BANKS;
 use crate::drawn::Call;
 use answer::Answer;
-use calls::Reply;
+use calls::Replied;
 use libc::STDOUT_FILENO;
 
 const CALLS: usize = 4096;
@@ -26,10 +26,10 @@ struct Tally {
 }
 
 // The answer of a reply, or what is kept for a refusal.
-fn answer_of(reply: Reply) -> Answer {
+fn answer_of(reply: Replied) -> Answer {
     match reply {
-        Reply::Answered(a) => a,
-        Reply::Refused(n) => Answer {
+        Replied::Answered(a) => a,
+        Replied::Refused(n) => Answer {
             failed: 0,
             code: n as u16,
             row: 255,
@@ -67,7 +67,7 @@ fn run_list(reporters: &[u8], book: &mut [u8], answers: &mut [u8]) {
 fn is_kept(a: Answer, kept: &[u8]) -> bool {
     let mut bytes = [0u8; 16];
     answer::write(a, &mut bytes, 0);
-    text::equal(&bytes, kept)
+    text::same(&bytes, kept)
 }
 
 // One more, up to the number of calls.
@@ -149,7 +149,7 @@ fn print_count(label: &[u8], n: u64) {
 fn compare<'a>(reporters: &'a [u8], book: &'a [u8], answers: &'a [u8], bank: usize) {
     let mut own = [0u8; 32768];
     let tally = run_lone(reporters, &mut own, answers, bank);
-    let same = text::equal(compartment(&own, bank), compartment(book, bank));
+    let same = text::same(compartment(&own, bank), compartment(book, bank));
     print_count(b"bank ", bank as u64);
     print_count(b" calls ", tally.calls);
     print_count(b" booked ", tally.booked);

@@ -1,7 +1,7 @@
 // Calls that are refused, each with a single fault, and whether the ledger is kept.
 use crate::hex::wide;
 use crate::piece::append;
-use calls::Reply;
+use calls::Replied;
 use libc::STDOUT_FILENO;
 
 // A checksum with a byte more.
@@ -21,13 +21,13 @@ fn checksum(s: &[u8]) -> u64 {
 }
 
 // Prints the number of a refusal.
-fn print_reply(reply: Reply) {
+fn print_reply(reply: Replied) {
     match reply {
-        Reply::Refused(n) => {
+        Replied::Refused(n) => {
             io::write_all(STDOUT_FILENO, b"refused ");
             io::print_decimal(STDOUT_FILENO, n as u64);
         }
-        Reply::Answered(_) => {
+        Replied::Answered(_) => {
             io::write_all(STDOUT_FILENO, b"answered");
         }
     }

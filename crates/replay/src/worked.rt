@@ -1,6 +1,6 @@
 // The worked records, called one by one on a ledger.
 use answer::Answer;
-use calls::Reply;
+use calls::Replied;
 use libc::STDOUT_FILENO;
 
 // Prints the sixteen bytes of an answer.
@@ -11,10 +11,10 @@ fn print_answer(a: Answer) {
 }
 
 // Prints the bytes of an answer, or the number of a refusal.
-fn print_reply(reply: Reply) {
+fn print_reply(reply: Replied) {
     match reply {
-        Reply::Answered(a) => print_answer(a),
-        Reply::Refused(n) => {
+        Replied::Answered(a) => print_answer(a),
+        Replied::Refused(n) => {
             io::write_all(STDOUT_FILENO, b"refused ");
             io::print_decimal(STDOUT_FILENO, n as u64);
         }

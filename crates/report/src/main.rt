@@ -41,7 +41,7 @@ fn run<'a>(file: &'a [u8], reporters: &'a [u8], currencies: &'a [u8], book: &mut
     let mut answers = [0u8; ANSWERS_ROOM];
     let mut page = [0u8; PAGE_ROOM];
     match calls::filing::file_call(file, reporters, currencies, book, &mut answers) {
-        Filed::Refusal(n) => {
+        Filed::Refused(n) => {
             let end = results::refused(&mut page, n);
             print(&page, end);
         }

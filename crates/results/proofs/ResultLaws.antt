@@ -12,9 +12,9 @@ use lib.ListN.{length}
 use Rattle.frame.proofs.EveryLaws.{many-none, many-more, many-same}
 use Rattle.answer.specs.declared.Answer.{Answer}
 use Rattle.answer.specs.Answer.{answerSize, zeroAnswer, answerAt}
-use Rattle.page.specs.Page.{Page, page, written}
+use Rattle.page.specs.Page.{Page, page, appended}
 use Rattle.page.specs.Number.{numberText}
-use Rattle.page.proofs.PageLaws.{written-both, written-length}
+use Rattle.page.proofs.PageLaws.{appended-both, appended-length}
 use Rattle.results.specs.Results.{rowText, lineText, linesText, isBooked, bookedCount}
 
 -- answers that are not there are all alike
@@ -35,15 +35,15 @@ unfolding rowText
 row-number row n = rw (ne-eqb row 255 n)
 
 -- what a loop knows that writes the lines of records: at its start, after one line more, at its end
-pub lines-none : (p : Page) (answers : List ℕ) → p ≡ written p (linesText 0 answers)
-unfolding linesText written
+pub lines-none : (p : Page) (answers : List ℕ) → p ≡ appended p (linesText 0 answers)
+unfolding linesText appended
 lines-none p answers = refl
 
-pub lines-more : (p : Page) (answers : List ℕ) (k : ℕ) {q r : Page} {a : Answer} → q ≡ written p (linesText k answers)
-    → a ≡ answerAt (k * answerSize) answers → r ≡ written q (lineText (k + 1) a) → r ≡ written p (linesText (k + 1) answers)
+pub lines-more : (p : Page) (answers : List ℕ) (k : ℕ) {q r : Page} {a : Answer} → q ≡ appended p (linesText k answers)
+    → a ≡ answerAt (k * answerSize) answers → r ≡ appended q (lineText (k + 1) a) → r ≡ appended p (linesText (k + 1) answers)
 unfolding linesText
 lines-more p answers k e g f =
-    f ∙ rw (e, g, add-one k) (written-both p (linesText k answers) (lineText (suc k) (answerAt (k * answerSize) answers)))
+    f ∙ rw (e, g, add-one k) (appended-both p (linesText k answers) (lineText (suc k) (answerAt (k * answerSize) answers)))
 
 -- what a count of the booked knows: at its start, after one more, after another
 pub booked-none : (answers : List ℕ) → 0 ≡ bookedCount 0 answers

@@ -19,9 +19,9 @@ use Rattle.text.specs.Number.{littleEndian, numberAt}
 use Rattle.text.proofs.NumberLaws.{digit-more}
 use Rattle.answer.specs.declared.Answer.{Answer}
 use Rattle.answer.specs.Answer.{answerSize, zeroAnswer, answerAt}
-use Rattle.page.specs.Page.{page, written}
+use Rattle.page.specs.Page.{page, appended}
 use Rattle.page.specs.Number.{numberText, codeText}
-use Rattle.page.proofs.PageLaws.{written-room}
+use Rattle.page.proofs.PageLaws.{appended-room}
 use Rattle.page.proofs.NumberLaws.{number-short, code-length}
 use Rattle.results.specs.Results.{rowText, lineText, linesText, isBooked, bookedCount, acceptedText}
 
@@ -103,9 +103,9 @@ accepted-short n answers h f =
 
 -- so all of the text stands on such a page, from its start on
 pub accepted-stands : (n : ℕ) (answers s : List ℕ) → n ≤ 1024 → areBytes answers → 20505 ≤ length s
-    → written (page s 0) (acceptedText n answers)
+    → appended (page s 0) (acceptedText n answers)
     ≡ page (acceptedText n answers ++ drop (length (acceptedText n answers)) s) (length (acceptedText n answers))
 accepted-stands n answers s h f room =
     let t : List ℕ = acceptedText n answers in
-    written-room s 0 t (omega (arith, accepted-short n answers h f))
+    appended-room s 0 t (omega (arith, accepted-short n answers h f))
     ∙ ap (λ (m : ℕ). page (t ++ drop m s) m) (zero-add (length t))

@@ -2,15 +2,14 @@
 ghost use mathlib.Core.Path.{_≡_};
 ghost use Prim.Native.Nat.{_*_};
 ghost use Rattle.answer.specs.Answer.{answerSize, answerAt};
-ghost use Rattle.page.specs.Page.{page, written};
+ghost use Rattle.page.specs.Page.{page, appended};
 ghost use Rattle.results.specs.Results.{rowText, lineText, linesText, bookedCount, acceptedText, refusedText};
+use answer::ANSWER_SIZE;
 use answer::Answer;
 use failures::Failures;
 use page::append;
 use page::append_code;
 use page::append_number;
-
-const ANSWER_SIZE: usize = 16;
 
 // The row of a record that passes for no bank.
 const NO_REPORTER: u8 = 255;
@@ -30,7 +29,7 @@ fn answer_to(answers: &[u8], k: usize) -> Answer
 
 // Writes a reporter's row, or - for none.
 fn append_row(out: &mut [u8], at: usize, row: u8) -> usize
-    ensures { λ r. ⌜ page (now (out .exit)) r ≡ written (page (now (out .entry)) at) (rowText row) ⌝ }
+    ensures { λ r. ⌜ page (now (out .exit)) r ≡ appended (page (now (out .entry)) at) (rowText row) ⌝ }
 {
     if row == NO_REPORTER {
         return append(out, at, b"-");
@@ -40,7 +39,7 @@ fn append_row(out: &mut [u8], at: usize, row: u8) -> usize
 
 // Writes the line of a record: its number, its first code, its count of failures, its reporter's row.
 fn append_line(out: &mut [u8], at: usize, number: u64, a: Answer) -> usize
-    ensures { λ r. ⌜ page (now (out .exit)) r ≡ written (page (now (out .entry)) at) (lineText number a) ⌝ }
+    ensures { λ r. ⌜ page (now (out .exit)) r ≡ appended (page (now (out .entry)) at) (lineText number a) ⌝ }
 {
     let failed = Failures { bits: a.failed };
     let mut end = append_number(out, at, number);
@@ -55,7 +54,7 @@ fn append_line(out: &mut [u8], at: usize, number: u64, a: Answer) -> usize
 
 // Writes the lines of n records.
 fn append_lines(out: &mut [u8], at: usize, answers: &[u8], n: usize) -> usize
-    ensures { λ r. ⌜ page (now (out .exit)) r ≡ written (page (now (out .entry)) at) (linesText n (now (answers .entry))) ⌝ }
+    ensures { λ r. ⌜ page (now (out .exit)) r ≡ appended (page (now (out .entry)) at) (linesText n (now (answers .entry))) ⌝ }
 {
     let mut end = at;
     let mut k = 0;
@@ -86,7 +85,7 @@ fn booked(answers: &[u8], n: usize) -> u64
 
 // Writes what is printed of a file call that is accepted, with n records.
 pub fn accepted(out: &mut [u8], answers: &[u8], n: usize) -> usize
-    ensures { λ r. ⌜ page (now (out .exit)) r ≡ written (page (now (out .entry)) 0) (acceptedText n (now (answers .entry))) ⌝ }
+    ensures { λ r. ⌜ page (now (out .exit)) r ≡ appended (page (now (out .entry)) 0) (acceptedText n (now (answers .entry))) ⌝ }
 {
     let mut end = append(out, 0, b"records ");
     end = append_number(out, end, n as u64);
@@ -99,7 +98,7 @@ pub fn accepted(out: &mut [u8], answers: &[u8], n: usize) -> usize
 
 // Writes what is printed of a file call that is refused.
 pub fn refused(out: &mut [u8], n: u8) -> usize
-    ensures { λ r. ⌜ page (now (out .exit)) r ≡ written (page (now (out .entry)) 0) (refusedText n) ⌝ }
+    ensures { λ r. ⌜ page (now (out .exit)) r ≡ appended (page (now (out .entry)) 0) (refusedText n) ⌝ }
 {
     let mut end = append(out, 0, b"refused ");
     end = append_number(out, end, n as u64);

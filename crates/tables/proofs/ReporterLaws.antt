@@ -5,7 +5,7 @@ use native.Mathlib.Omega.{arith}
 use mathlib.Core.Bool.{Bool, true, false, _&&_, _||_, not, false≢true}
 use mathlib.Core.List.{List}
 use mathlib.Core.Path.{_≡_, refl, sym, _∙_}
-use borrow.Author.Tests.{ltb-true, eqb-false, not-true}
+use borrow.Author.Tests.{lt-ltb, le-ltb, ltb-true, eqb-false, not-true}
 use lib.Dec.{ltb, eqb}
 use lib.ListN.{length, length-take, length-drop}
 use Rattle.frame.proofs.BoolLaws.{and-left, and-right}
@@ -35,6 +35,15 @@ address-length : (t : List ℕ) (k : ℕ) → k < reporterCount t → length (ad
 address-length t k h =
     let row : length (reporterAt t k) ≡ reporterSize = part-length reporterSize k t (omega arith) in
     rw (length-take, length-drop, row) refl
+
+-- the returns of a test of row k for what a part of it has to be: as that part comes out; that there is no such row
+module _ (t f : List ℕ) (k : ℕ) (part : List ℕ → List ℕ) (test : List ℕ → List ℕ → Bool) {count : ℕ} (e : count ≡ reporterCount t) where
+  pub row-tested : {w v : List ℕ} {r : Bool} → k < count → w ≡ reporterAt t k → v ≡ part w → r ≡ test v f
+      → r ≡ ltb k (reporterCount t) && test (part (reporterAt t k)) f
+  row-tested h p q s = s ∙ rw (q, p, ← e, lt-ltb _ _ h) refl
+
+  pub row-absent : count ≤ k → ltb k count ≡ ltb k (reporterCount t) && test (part (reporterAt t k)) f
+  row-absent h = let none : ltb k count ≡ false = le-ltb _ _ h in rw (← e, none) refl
 
 -- a row that is found has what was looked up
 pub row-code-found : (t f : List ℕ) → rowByCode t f < reporterCount t → hasCode t f (rowByCode t f) ≡ true

@@ -9,7 +9,8 @@ ghost use Rattle.text.specs.Class.{isCapital};
 ghost use Rattle.text.specs.Bytes.{all, same};
 ghost use Rattle.text.specs.Number.{numberAt};
 ghost use Rattle.tables.specs.Reporters.{reporterCount, reporterAt, codeOf, addressOf, mailboxBytes, mailboxOf, mailboxForm, reporterForm};
-ghost use Rattle.tables.specs.Reporters.{reportersDiffer, reporterOk, reportersOk, hasCode, hasAddress, hasMailbox, rowByCode, rowByAddress};
+ghost use Rattle.tables.specs.Reporters.{reportersDiffer, reporterOk, reportersOk, hasCode, hasAddress, hasMailbox, hasBy, firstRowBy};
+ghost use Rattle.tables.specs.Reporters.{rowByCode, rowByAddress};
 ghost use Rattle.tables.specs.Currencies.{currencySize, currencyCount, currencyAt, isSpecial, currencyOk, currenciesOk, foundMoney};
 use text::Class;
 use text::Order;
@@ -107,7 +108,7 @@ fn rows_differ(t: &[u8], k: usize, j: usize) -> bool
     if !may_agree(v, w) {
         return true;
     }
-    !text::equal(code_of(v), code_of(w)) & !text::equal(address_of(v), address_of(w))
+    !text::same(code_of(v), code_of(w)) & !text::same(address_of(v), address_of(w))
 }
 
 // Whether row k differs from each row before it.
@@ -158,7 +159,7 @@ pub fn reporters_ok(t: &[u8]) -> bool
 pub fn has_code<'a>(t: &'a [u8], f: &'a [u8], k: usize) -> bool
     ensures { λ r. ⌜ r ≡ hasCode (now (t .entry)) (now (f .entry)) k ⌝ }
 {
-    k < reporter_count(t) && text::equal(code_of(row(t, k)), f)
+    k < reporter_count(t) && text::same(code_of(row(t, k)), f)
 }
 
 // Whether row k has the address f, which may lack the XXX at its end.
@@ -172,37 +173,47 @@ pub fn has_address<'a>(t: &'a [u8], f: &'a [u8], k: usize) -> bool
 pub fn has_mailbox<'a>(t: &'a [u8], f: &'a [u8], k: usize) -> bool
     ensures { λ r. ⌜ r ≡ hasMailbox (now (t .entry)) (now (f .entry)) k ⌝ }
 {
-    k < reporter_count(t) && text::equal(mailbox_of(row(t, k)), f)
+    k < reporter_count(t) && text::same(mailbox_of(row(t, k)), f)
+}
+
+// Whether row k has f as its address, or as its bank code.
+fn has<'a>(t: &'a [u8], f: &'a [u8], k: usize, addressed: bool) -> bool
+    ensures { λ r. ⌜ r ≡ hasBy addressed (now (t .entry)) (now (f .entry)) k ⌝ }
+{
+    if addressed {
+        has_address(t, f, k)
+    } else {
+        has_code(t, f, k)
+    }
+}
+
+// The first row with the address f, or with the bank code; the count of rows where none has it.
+fn first_row<'a>(t: &'a [u8], f: &'a [u8], addressed: bool) -> usize
+    ensures { λ r. ⌜ r ≡ firstRowBy addressed (now (t .entry)) (now (f .entry)) ⌝ }
+{
+    let count = reporter_count(t);
+    let mut k = 0;
+    while k < count {
+        if has(t, f, k, addressed) {
+            return k;
+        }
+        k += 1;
+    }
+    k
 }
 
 // The first row with the bank code f; the count of rows where none has it.
 pub fn row_by_code<'a>(t: &'a [u8], f: &'a [u8]) -> usize
     ensures { λ r. ⌜ r ≡ rowByCode (now (t .entry)) (now (f .entry)) ⌝ }
 {
-    let count = reporter_count(t);
-    let mut k = 0;
-    while k < count {
-        if has_code(t, f, k) {
-            return k;
-        }
-        k += 1;
-    }
-    k
+    first_row(t, f, false)
 }
 
 // The first row with the address f; the count of rows where none has it.
 pub fn row_by_address<'a>(t: &'a [u8], f: &'a [u8]) -> usize
     ensures { λ r. ⌜ r ≡ rowByAddress (now (t .entry)) (now (f .entry)) ⌝ }
 {
-    let count = reporter_count(t);
-    let mut k = 0;
-    while k < count {
-        if has_address(t, f, k) {
-            return k;
-        }
-        k += 1;
-    }
-    k
+    first_row(t, f, true)
 }
 
 // How many whole codes a currency list has.

@@ -87,10 +87,10 @@ pub fn judge_derivative<'a>(
 ) -> [bool; 5]
     ensures { λ r. ⌜ r ≡ derivativeTests money21 (now (f21 .entry)) (now (f29 .entry)) (now (f30 .entry)) (now (f32 .entry)) ⌝ }
 {
-    let xxk = text::equal(f21, b"XXK");
-    let xxo = text::equal(f21, b"XXO");
-    let xxx = text::equal(f21, b"XXX");
-    let xxz = text::equal(f21, b"XXZ");
+    let xxk = text::same(f21, b"XXK");
+    let xxo = text::same(f21, b"XXO");
+    let xxx = text::same(f21, b"XXX");
+    let xxz = text::same(f21, b"XXZ");
     let k = fields::letter_of(f29);
     [
         (xxk | xxo) & !((k == b'C') | (k == b'P') | (k == b'F')), // 47 0290

@@ -16,7 +16,7 @@ use Rattle.frame.specs.Every.{every}
 use Rattle.frame.specs.Parts.{part}
 use Rattle.frame.proofs.BoolLaws.{and-left, and-right, and-intro, and-false, and-true, and-assoc}
 use Rattle.text.specs.Class.{isDigit}
-use Rattle.text.specs.Bytes.{all, same, positionOf, countOf}
+use Rattle.text.specs.Bytes.{all, same, positionOf}
 
 abbrev pub isByte : ℕ → Bool
 isByte b = ltb b 256
@@ -119,25 +119,6 @@ position-le b (x ∷ xs) = at (eqb x b) (position-le b xs)
     at : (t : Bool) → positionOf b xs ≤ length xs → cond t 0 (suc (positionOf b xs)) ≤ suc (length xs)
     at true h = zero-le
     at false h = suc-le-suc h
-
-module _ (b : ℕ) (s : List ℕ) (i n : ℕ) (e : countOf b s ≡ n + countOf b (drop i s)) where
-  pub count-hit : i < length s → getD s i 0 ≡ b → countOf b s ≡ (n + 1) + countOf b (drop (i + 1) s)
-  unfolding countOf
-  count-hit h t =
-      let q : countOf b (drop i s) ≡ 1 + countOf b (drop (i + 1) s) = rw (add-one, drop-cons s i 0, eq-eqb _ _ t) refl in
-      omega (arith, q)
-
-  pub count-miss : i < length s → (getD s i 0 ≡ b → ⊥) → countOf b s ≡ n + countOf b (drop (i + 1) s)
-  unfolding countOf
-  count-miss h t =
-      let q : countOf b (drop i s) ≡ 0 + countOf b (drop (i + 1) s) = rw (add-one, drop-cons s i 0, ne-eqb _ _ t) refl in
-      omega (arith, q)
-
-  pub count-end : length s ≤ i → n ≡ countOf b s
-  unfolding countOf
-  count-end h =
-      let q : countOf b (drop i s) ≡ 0 = rw (drop-of-length-le s h) refl in
-      omega (arith, q)
 
 -- what every byte passes, the byte at i passes
 pub all-get : (p : ℕ → Bool) (s : List ℕ) (i : ℕ) → all p s ≡ true → i < length s → p (getD s i 0) ≡ true

@@ -1,4 +1,5 @@
 pub mod ByteLaws
+pub mod PartLaws
 pub mod OrderLaws
 pub mod NumberLaws
 pub mod WordLaws

@@ -1,6 +1,6 @@
 -- Tests and searches over a list of bytes.
 -- Assumes nothing.
-use Prim.Native.Nat.{ℕ, suc, _+_}
+use Prim.Native.Nat.{ℕ, suc}
 use mathlib.Core.Bool.{Bool, true, false, _&&_, cond}
 use mathlib.Core.List.{List, [], _∷_}
 use lib.Dec.{eqb}
@@ -21,8 +21,3 @@ same (x ∷ xs) (y ∷ ys) = eqb x y && same xs ys
 unfoldable pub positionOf : ℕ → List ℕ → ℕ
 positionOf b [] = 0
 positionOf b (x ∷ xs) = cond (eqb x b) 0 (suc (positionOf b xs))
-
--- how often b stands in the list
-unfoldable pub countOf : ℕ → List ℕ → ℕ
-countOf b [] = 0
-countOf b (x ∷ xs) = cond (eqb x b) 1 0 + countOf b xs

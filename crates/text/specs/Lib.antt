@@ -1,5 +1,6 @@
 pub mod Text
 pub mod Class
 pub mod Bytes
+pub mod Part
 pub mod Order
 pub mod Number

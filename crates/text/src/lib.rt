@@ -4,7 +4,8 @@ ghost use Prim.Native.Nat.{_≤_, _<_, _^_};
 ghost use lib.Dec.{eqb};
 ghost use lib.ListN.{length, take, drop};
 ghost use Rattle.text.specs.Class.{belongsTo, isDigit, isCapital, isWordByte, isRecordByte, isZero};
-ghost use Rattle.text.specs.Bytes.{all as allOf, same, positionOf, countOf};
+ghost use Rattle.text.specs.Bytes.{all as allOf, same as sameBytes, positionOf};
+ghost use Rattle.text.specs.Part.{Lies, restStart};
 ghost use Rattle.text.specs.Order.{orderOf};
 ghost use Rattle.text.specs.Number.{littleEndian, bigEndian, lowBytes, numberAt, numberPut};
 
@@ -72,6 +73,13 @@ pub fn belongs(c: Class, b: u8) -> bool
     }
 }
 
+// A byte as a wider number.
+pub fn wide(b: u8) -> u64
+    ensures { λ r. ⌜ (r ≡ b) × (r < 256) ⌝ }
+{
+    b as u64
+}
+
 // 0 for a byte of the class c, and for no other.
 fn mark(c: Class, b: u8) -> u8
     ensures { λ r. ⌜ eqb r 0 ≡ belongsTo c b ⌝ }
@@ -96,8 +104,8 @@ pub fn all(c: Class, s: &[u8]) -> bool
 }
 
 // Whether a and b hold the same bytes; the last are compared first, since numbers and bank codes begin alike.
-pub fn equal(a: &[u8], b: &[u8]) -> bool
-    ensures { λ r. ⌜ r ≡ same (now (a .entry)) (now (b .entry)) ⌝ }
+pub fn same(a: &[u8], b: &[u8]) -> bool
+    ensures { λ r. ⌜ r ≡ sameBytes (now (a .entry)) (now (b .entry)) ⌝ }
 {
     if a.len() != b.len() {
         return false;
@@ -149,33 +157,16 @@ pub fn position(s: &[u8], b: u8) -> usize
     i
 }
 
-// How often b stands in s.
-pub fn count(s: &[u8], b: u8) -> usize
-    ensures { λ r. ⌜ r ≡ countOf b (now (s .entry)) ⌝ }
-{
-    let mut n: usize = 0;
-    let mut i = 0;
-    while i < s.len() {
-        if s[i] == b {
-            n += 1;
-            i += 1;
-        } else {
-            i += 1;
-        }
-    }
-    n
-}
-
-// The first k bytes of s; all of s where it has fewer.
+// The first k bytes of s, as a part of it; all of s where it has fewer.
 pub fn front(s: &[u8], k: usize) -> &[u8]
-    ensures { λ r. ⌜ now r ≡ take k (now (s .entry)) ⌝ }
+    ensures { λ r. ⌜ Lies (s .entry) 0 (take k (now (s .entry))) r ⌝ }
 {
     if k <= s.len() { &s[..k] } else { s }
 }
 
-// What follows the first k bytes of s; nothing where it has fewer.
+// What follows the first k bytes of s, as a part of it; the empty part at its start where it has fewer.
 pub fn rest(s: &[u8], k: usize) -> &[u8]
-    ensures { λ r. ⌜ now r ≡ drop k (now (s .entry)) ⌝ }
+    ensures { λ r. ⌜ Lies (s .entry) (restStart k (now (s .entry))) (drop k (now (s .entry))) r ⌝ }
 {
     if k <= s.len() { &s[k..] } else { &s[..0] }
 }
@@ -223,30 +214,32 @@ fn put_number(w: &mut [u8], x: u64)
     }
 }
 
+// The number in the n bytes of s from a place on, the lowest first; 0 where they are not all there.
+fn number_at(s: &[u8], at: usize, n: usize) -> u64
+    requires { ⌜ n ≤ 8 ⌝ }
+    ensures { λ r. ⌜ (r ≡ numberAt n at (now (s .entry))) × (r < 256 ^ n) ⌝ }
+{
+    if s.len() < n {
+        return 0;
+    }
+    if s.len() - n < at {
+        return 0;
+    }
+    number_of(&s[at..at + n])
+}
+
 // The number in the two bytes of s from a place on, the lowest first; 0 where they are not both there.
 pub fn read_u16(s: &[u8], at: usize) -> u16
     ensures { λ r. ⌜ r ≡ numberAt 2 at (now (s .entry)) ⌝ }
 {
-    if s.len() < 2 {
-        return 0;
-    }
-    if s.len() - 2 < at {
-        return 0;
-    }
-    number_of(&s[at..at + 2]) as u16
+    number_at(s, at, 2) as u16
 }
 
 // The number in the eight bytes of s from a place on, the lowest first; 0 where they are not all there.
 pub fn read_u64(s: &[u8], at: usize) -> u64
     ensures { λ r. ⌜ r ≡ numberAt 8 at (now (s .entry)) ⌝ }
 {
-    if s.len() < 8 {
-        return 0;
-    }
-    if s.len() - 8 < at {
-        return 0;
-    }
-    number_of(&s[at..at + 8])
+    number_at(s, at, 8)
 }
 
 // Whether the bytes of s are all zero, block by block.
@@ -264,28 +257,29 @@ pub fn is_zero(s: &[u8]) -> bool
     all(Class::Zero, &s[i..])
 }
 
+// Writes the n lowest bytes of x into s from a place on, the lowest first; nothing where they are not all there.
+fn put_at(s: &mut [u8], at: usize, n: usize, x: u64)
+    ensures { λ r. ⌜ now (s .exit) ≡ numberPut n at x (now (s .entry)) ⌝ }
+{
+    if s.len() < n {
+        return;
+    }
+    if s.len() - n < at {
+        return;
+    }
+    put_number(&mut s[at..at + n], x);
+}
+
 // Writes x into the two bytes of s from a place on, the lowest first; nothing where they are not both there.
 pub fn write_u16(s: &mut [u8], at: usize, x: u16)
     ensures { λ r. ⌜ now (s .exit) ≡ numberPut 2 at x (now (s .entry)) ⌝ }
 {
-    if s.len() < 2 {
-        return;
-    }
-    if s.len() - 2 < at {
-        return;
-    }
-    put_number(&mut s[at..at + 2], x as u64);
+    put_at(s, at, 2, x as u64);
 }
 
 // Writes x into the eight bytes of s from a place on, the lowest first; nothing where they are not all there.
 pub fn write_u64(s: &mut [u8], at: usize, x: u64)
     ensures { λ r. ⌜ now (s .exit) ≡ numberPut 8 at x (now (s .entry)) ⌝ }
 {
-    if s.len() < 8 {
-        return;
-    }
-    if s.len() - 8 < at {
-        return;
-    }
-    put_number(&mut s[at..at + 8], x);
+    put_at(s, at, 8, x);
 }

@@ -2,9 +2,9 @@
 -- Assumes nothing.
 use Prim.Native.Nat.{ℕ}
 use Prim.Native.Char.{code}
-use mathlib.Core.Bool.{Bool, true, false, not, cond, _||_}
+use mathlib.Core.Bool.{Bool, true, false, not, cond, _&&_, _||_}
 use mathlib.Core.List.{List, [], _∷_}
-use mathlib.Core.Path.{_≡_, refl, sym}
+use mathlib.Core.Path.{_≡_, refl}
 use borrow.Author.Tests.{eqb-true}
 use lib.Dec.{eqb}
 use lib.ListN.{getD}
@@ -14,12 +14,12 @@ use Rattle.fields.specs.Forms.{letter, starts}
 use Rattle.underlying.specs.declared.Theme.{Theme}
 use Rattle.underlying.specs.declared.Theme.the-variants.{Basket, Commodity, Metal, NonMetal, Interest, Currency}
 use Rattle.underlying.specs.declared.Underlying.{Underlying}
-use Rattle.underlying.specs.declared.Underlying.the-variants.{Missing, Themed, Unlisted}
+use Rattle.underlying.specs.declared.Underlying.the-variants.{Missing, Isin, Eurex, Otob, Foreign, Themed, Unlisted, Unknown}
 use Rattle.underlying.specs.declared.Derivative.{Derivative}
 use Rattle.underlying.specs.Underlying.{asksUnderlying, isMissing, isTheme, presentTests, underlyingTests}
-use Rattle.underlying.specs.Cases.{wordOf, firstTheme, themeOf, presentOf, underlyingOf, testsBeside, testsOf}
+use Rattle.underlying.specs.Cases.{themeWord, firstTheme, themeOf, presentOf, underlyingOf, firstLetter, isLacking, testsBeside, testsOf}
 
-module _ {found : Bool} (word : List ℕ) (theme : Theme) (themes : List Theme) (e : found ≡ same word (wordOf theme)) where
+module _ {found : Bool} (word : List ℕ) (theme : Theme) (themes : List Theme) (e : found ≡ same word (themeWord theme)) where
   pub theme-found : found ≡ true → Themed theme ≡ firstTheme (theme ∷ themes) word
   unfolding firstTheme
   theme-found h = rw (← e, h) refl
@@ -38,8 +38,8 @@ theme-tests : (naming : ℕ) (word : List ℕ)
     ≡ false ∷ false ∷ eqb naming (code "E") ∷ not (isTheme word) ∷ false ∷ eqb naming (code "O") ∷ false ∷ []
 unfolding firstTheme isTheme
 theme-tests naming word =
-    of (same word (wordOf Basket)) (same word (wordOf Commodity)) (same word (wordOf Metal))
-    (same word (wordOf NonMetal)) (same word (wordOf Interest)) (same word (wordOf Currency))
+    of (same word (themeWord Basket)) (same word (themeWord Commodity)) (same word (themeWord Metal))
+    (same word (themeWord NonMetal)) (same word (themeWord Interest)) (same word (themeWord Currency))
   where
     of : (a b c d e f : Bool)
         → testsBeside naming
@@ -63,9 +63,38 @@ module _ (f33 : List ℕ) where
   unfolding underlyingOf
   present-case h = rw h refl
 
-pub derivative-case : (d : Derivative) {u : Underlying} → d .underlying ≡ u → testsBeside (d .naming) u ≡ testsOf d
+-- the tests by first letter and what follows it, case by case
+pub letter-tests : (n k : ℕ) (lacking : Bool) (d : Derivative) → n ≡ d .naming → k ≡ firstLetter (d .underlying) → lacking ≡ isLacking (d .underlying)
+    → eqb k 0
+    ∷ (eqb k (code "S") && lacking)
+    ∷ (eqb n (code "E") && (eqb k (code "O") || eqb k (code "A") || eqb k (code "T")))
+    ∷ (eqb k (code "T") && lacking)
+    ∷ eqb k (code "?")
+    ∷ (eqb n (code "O") && (eqb k (code "E") || eqb k (code "A") || eqb k (code "T")))
+    ∷ ((eqb k (code "E") || eqb k (code "O") || eqb k (code "A")) && lacking)
+    ∷ []
+    ≡ testsOf d
 unfolding testsOf
-derivative-case d e = λ i. testsBeside (d .naming) (sym e i)
+letter-tests n k lacking d p q r = rw (p, q, r) (of (d .naming) (d .underlying))
+  where
+    of : (n : ℕ) (u : Underlying)
+        → eqb (firstLetter u) 0
+        ∷ (eqb (firstLetter u) (code "S") && isLacking u)
+        ∷ (eqb n (code "E") && (eqb (firstLetter u) (code "O") || eqb (firstLetter u) (code "A") || eqb (firstLetter u) (code "T")))
+        ∷ (eqb (firstLetter u) (code "T") && isLacking u)
+        ∷ eqb (firstLetter u) (code "?")
+        ∷ (eqb n (code "O") && (eqb (firstLetter u) (code "E") || eqb (firstLetter u) (code "A") || eqb (firstLetter u) (code "T")))
+        ∷ ((eqb (firstLetter u) (code "E") || eqb (firstLetter u) (code "O") || eqb (firstLetter u) (code "A")) && isLacking u)
+        ∷ []
+        ≡ testsBeside n u
+    of n Missing = simp (and-false, and-true)
+    of n (Isin valid) = simp (and-false, and-true)
+    of n (Eurex alone) = simp (and-false, and-true)
+    of n (Otob alone) = simp (and-false, and-true)
+    of n (Foreign alone) = simp (and-false, and-true)
+    of n (Themed theme) = simp (and-false, and-true)
+    of n Unlisted = simp (and-false, and-true)
+    of n Unknown = simp (and-false, and-true)
 
 -- a field that begins with one letter begins with none of the others
 present-tests : (f19 f33 : List ℕ) → testsBeside (letter f19) (presentOf f33) ≡ false ∷ presentTests f19 f33

@@ -5,7 +5,7 @@ use mathlib.Core.List.{[], _∷_, map}
 use mathlib.Core.Path.{_≡_, refl}
 use Rattle.text.specs.Bytes.{all, same}
 use Rattle.text.specs.Text.{bytes}
-use Rattle.identifier.specs.Isin.{isinForm, valueOf, digitsOf, digits, weighted, digitSum, checkDigitRight}
+use Rattle.identifier.specs.Isin.{isinForm, letterValue, digitsOf, digits, weighted, digitSum, checkDigitRight}
 use Rattle.fields.specs.Forms.{letter}
 use Rattle.underlying.specs.declared.Theme.the-variants.{NonMetal}
 use Rattle.underlying.specs.declared.Underlying.the-variants.{Missing, Isin, Eurex, Otob, Foreign, Themed, Unlisted, Unknown}
@@ -15,7 +15,7 @@ use Rattle.underlying.specs.Cases.{firstTheme, presentOf, underlyingOf}
 pub cases :
     map underlyingOf (map bytes ("" ∷ "SAT0000999982" ∷ "S" ∷ "EVER" ∷ "O" ∷ "ADTE" ∷ "TNON-METAL" ∷ "TNONMETAL" ∷ "X" ∷ []))
     ≡ Missing ∷ Isin true ∷ Isin false ∷ Eurex false ∷ Otob true ∷ Foreign false ∷ Themed NonMetal ∷ Unlisted ∷ Unknown ∷ []
-unfolding underlyingOf presentOf firstTheme isMissing isinForm valueOf digitsOf digits weighted digitSum checkDigitRight all same
+unfolding underlyingOf presentOf firstTheme isMissing isinForm letterValue digitsOf digits weighted digitSum checkDigitRight all same
 cases = refl
 
 -- F19=E, F21=XXK: the text fails 54 and 55

@@ -19,18 +19,18 @@ use Rattle.underlying.specs.declared.Derivative.{Derivative}
 use Rattle.underlying.specs.Underlying.{isMissing}
 
 -- the word that each theme stands for
-abbrev pub wordOf : Theme → List ℕ
-wordOf Basket = bytes "BASKET"
-wordOf Commodity = bytes "COMMODITY"
-wordOf Metal = bytes "METAL"
-wordOf NonMetal = bytes "NON-METAL"
-wordOf Interest = bytes "INTEREST"
-wordOf Currency = bytes "CURRENCY"
+abbrev pub themeWord : Theme → List ℕ
+themeWord Basket = bytes "BASKET"
+themeWord Commodity = bytes "COMMODITY"
+themeWord Metal = bytes "METAL"
+themeWord NonMetal = bytes "NON-METAL"
+themeWord Interest = bytes "INTEREST"
+themeWord Currency = bytes "CURRENCY"
 
 -- the first of some themes whose word it is; unlisted where it is none of their words
 unfoldable pub firstTheme : List Theme → List ℕ → Underlying
 firstTheme [] word = Unlisted
-firstTheme (theme ∷ themes) word = cond (same word (wordOf theme)) (Themed theme) (firstTheme themes word)
+firstTheme (theme ∷ themes) word = cond (same word (themeWord theme)) (Themed theme) (firstTheme themes word)
 
 -- what follows T
 abbrev pub themeOf : List ℕ → Underlying
@@ -54,8 +54,29 @@ presentOf f33 =
 unfoldable pub underlyingOf : List ℕ → Underlying
 underlyingOf f33 = cond (isMissing f33) Missing (presentOf f33)
 
--- whether each of places 52 to 58 fails, of an underlying beside the byte of F19:
--- 52 0331, 53 0332, 54 0335 (F19=E), 55 0336, 56 0337, 57 0338 (F19=O), 58 0339
+-- the letter that each case begins with; 0 where it is missing, a question mark for any other letter
+abbrev pub firstLetter : Underlying → ℕ
+firstLetter Missing = 0
+firstLetter (Isin valid) = code "S"
+firstLetter (Eurex alone) = code "E"
+firstLetter (Otob alone) = code "O"
+firstLetter (Foreign alone) = code "A"
+firstLetter (Themed theme) = code "T"
+firstLetter Unlisted = code "T"
+firstLetter Unknown = code "?"
+
+-- what follows the letter is not what it asks for: a valid ISIN, a number, one of the six words
+abbrev pub isLacking : Underlying → Bool
+isLacking Missing = false
+isLacking (Isin valid) = not valid
+isLacking (Eurex alone) = alone
+isLacking (Otob alone) = alone
+isLacking (Foreign alone) = alone
+isLacking (Themed theme) = false
+isLacking Unlisted = true
+isLacking Unknown = false
+
+-- whether each of places 52 to 58 fails, of an underlying beside the byte of F19: a line for each case, a column for each place
 abbrev pub testsBeside : ℕ → Underlying → List Bool
 testsBeside naming Missing = true ∷ false ∷ false ∷ false ∷ false ∷ false ∷ false ∷ []
 testsBeside naming (Isin valid) = false ∷ not valid ∷ false ∷ false ∷ false ∷ false ∷ false ∷ []

@@ -1,7 +1,7 @@
 // Field 33 of a record, the underlying of a derivative: places 52 to 58 of document 01.
 ghost use mathlib.Core.Path.{_≡_};
 ghost use Rattle.underlying.specs.Underlying.{asksUnderlying, underlyingTests};
-ghost use Rattle.underlying.specs.Cases.{themeOf, presentOf, underlyingOf, testsOf};
+ghost use Rattle.underlying.specs.Cases.{themeOf, presentOf, underlyingOf, firstLetter, isLacking, testsOf};
 
 // The six words that may follow T.
 pub enum Theme {
@@ -44,29 +44,29 @@ pub struct Derivative {
 fn asks_underlying(f21: &[u8]) -> bool
     ensures { λ r. ⌜ r ≡ asksUnderlying (now (f21 .entry)) ⌝ }
 {
-    text::equal(f21, b"XXK") | text::equal(f21, b"XXO") | text::equal(f21, b"XXZ")
+    text::same(f21, b"XXK") | text::same(f21, b"XXO") | text::same(f21, b"XXZ")
 }
 
 // What follows T: one of the six words, or an unlisted text.
 fn theme_of(word: &[u8]) -> Underlying
     ensures { λ r. ⌜ r ≡ themeOf (now (word .entry)) ⌝ }
 {
-    if text::equal(word, b"BASKET") {
+    if text::same(word, b"BASKET") {
         return Underlying::Themed(Theme::Basket);
     }
-    if text::equal(word, b"COMMODITY") {
+    if text::same(word, b"COMMODITY") {
         return Underlying::Themed(Theme::Commodity);
     }
-    if text::equal(word, b"METAL") {
+    if text::same(word, b"METAL") {
         return Underlying::Themed(Theme::Metal);
     }
-    if text::equal(word, b"NON-METAL") {
+    if text::same(word, b"NON-METAL") {
         return Underlying::Themed(Theme::NonMetal);
     }
-    if text::equal(word, b"INTEREST") {
+    if text::same(word, b"INTEREST") {
         return Underlying::Themed(Theme::Interest);
     }
-    if text::equal(word, b"CURRENCY") {
+    if text::same(word, b"CURRENCY") {
         return Underlying::Themed(Theme::Currency);
     }
     Underlying::Unlisted
@@ -98,31 +98,55 @@ pub fn underlying_of(f33: &[u8]) -> Underlying
     present_of(f33)
 }
 
-// Whether each of places 52 to 58 fails: a line for each kind of underlying, a column for each place.
+// The letter that field 33 begins with; 0 where it is missing, a question mark for any other letter.
+fn first_letter(u: Underlying) -> u8
+    ensures { λ r. ⌜ r ≡ firstLetter u ⌝ }
+{
+    match u {
+        Underlying::Missing => 0,
+        Underlying::Isin(_) => b'S',
+        Underlying::Eurex(_) => b'E',
+        Underlying::Otob(_) => b'O',
+        Underlying::Foreign(_) => b'A',
+        Underlying::Themed(_) => b'T',
+        Underlying::Unlisted => b'T',
+        Underlying::Unknown => b'?',
+    }
+}
+
+// Whether what follows the letter is not what the letter asks for: a valid ISIN, a number, one of the six words.
+fn is_lacking(u: Underlying) -> bool
+    ensures { λ r. ⌜ r ≡ isLacking u ⌝ }
+{
+    match u {
+        Underlying::Missing => false,
+        Underlying::Isin(valid) => !valid,
+        Underlying::Eurex(alone) => alone,
+        Underlying::Otob(alone) => alone,
+        Underlying::Foreign(alone) => alone,
+        Underlying::Themed(_) => false,
+        Underlying::Unlisted => true,
+        Underlying::Unknown => false,
+    }
+}
+
+// Whether each of places 52 to 58 fails.
 fn tests_of(d: Derivative) -> [bool; 7]
     ensures { λ r. ⌜ r ≡ testsOf d ⌝ }
 {
-    let by_eurex = d.naming == b'E';
-    let by_otob = d.naming == b'O';
+    let naming = d.naming;
     let underlying = d.underlying;
-    match underlying {
-        // 52 0331
-        Underlying::Missing => [true, false, false, false, false, false, false],
-        // 53 0332
-        Underlying::Isin(valid) => [false, !valid, false, false, false, false, false],
-        // 57 0338, 58 0339
-        Underlying::Eurex(alone) => [false, false, false, false, false, by_otob, alone],
-        // 54 0335, 58 0339
-        Underlying::Otob(alone) => [false, false, by_eurex, false, false, false, alone],
-        // 54 0335, 57 0338, 58 0339
-        Underlying::Foreign(alone) => [false, false, by_eurex, false, false, by_otob, alone],
-        // 54 0335, 57 0338
-        Underlying::Themed(_) => [false, false, by_eurex, false, false, by_otob, false],
-        // 54 0335, 55 0336, 57 0338
-        Underlying::Unlisted => [false, false, by_eurex, true, false, by_otob, false],
-        // 56 0337
-        Underlying::Unknown => [false, false, false, false, true, false, false],
-    }
+    let k = first_letter(underlying);
+    let lacking = is_lacking(underlying);
+    [
+        k == 0, // 52 0331
+        (k == b'S') & lacking, // 53 0332
+        (naming == b'E') & ((k == b'O') | (k == b'A') | (k == b'T')), // 54 0335
+        (k == b'T') & lacking, // 55 0336
+        k == b'?', // 56 0337
+        (naming == b'O') & ((k == b'E') | (k == b'A') | (k == b'T')), // 57 0338
+        ((k == b'E') | (k == b'O') | (k == b'A')) & lacking, // 58 0339
+    ]
 }
 
 // Whether each of places 52 to 58 fails; none does where field 21 asks for no underlying.

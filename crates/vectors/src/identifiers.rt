@@ -5,7 +5,7 @@ use libc::STDOUT_FILENO;
 // The value of a line, which stands before the space; `-` is the empty value.
 fn value(line: &[u8]) -> &[u8] {
     let v = word(line);
-    if text::equal(v, b"-") {
+    if text::same(v, b"-") {
         text::front(v, 0)
     } else {
         v

@@ -91,11 +91,11 @@ pub(crate) fn print(line: &[u8]) {
     io::write_all(STDOUT_FILENO, kind);
     io::write_all(STDOUT_FILENO, b" ");
     io::write_all(STDOUT_FILENO, word(named));
-    if text::equal(kind, b"reporters") {
+    if text::same(kind, b"reporters") {
         verdict(tables::reporters_ok(object), b" refused 2\n");
         return;
     }
-    if text::equal(kind, b"currencies") {
+    if text::same(kind, b"currencies") {
         verdict(tables::currencies_ok(object), b" refused 3\n");
         return;
     }

@@ -14,14 +14,14 @@ start c = c .before .before .before .before .before .before .before .before .bef
 
 -- after the sender check: what it has found of the call's record, and what holds since the call is not refused
 checked : (c : tie.After-check) → let a = start c .args in
-    c .check .result ≡ checkedOf (a .reporters .now) (called (a .from .now) (a .s .now))
+    c .check .result ≡ checkedOf (a .reporters .now) (called (a .sender .now) (a .«record» .now))
 checked c =
     let whole = c .before .before .before .before .before in
     checked-same _ _ _ _ (whole .before .before .index .ensures) (whole .is-whole .ensures) (c .before .before .before .part .ensures .bytes)
     (c .before .part2 .ensures .bytes) (c .check .ensures)
 
 ok : (c : tie.After-check) → let a = start c .args in
-    Accepted (a .reporters .now) (a .currencies .now) (called (a .from .now) (a .s .now)) (soundLedger (a .book .now))
+    Accepted (a .reporters .now) (a .currencies .now) (called (a .sender .now) (a .«record» .now)) (soundLedger (a .ledger .now))
 ok c = accepted _ _ _ _ (start c .pre)
 
 enum-known-checked : tie.Need-enum-known-checked

@@ -14,7 +14,7 @@ answer-of-requires c κs = search needs
 
 -- places 7 to 60, as the step's definition has them
 judged : (c : tie.After-judge) → let a = c .before .before .before .before .before .args in
-    c .judge .result ≡ recordFailures (a .reporters .now) (isMoney (a .currencies .now)) (a .row) (fieldOf (a .s .now))
+    c .judge .result ≡ recordFailures (a .reporters .now) (isMoney (a .currencies .now)) (a .row) (fieldOf (a .«record» .now))
 judged c =
     let pre = c .before .before .before .before .before .pre in
     c .judge .ensures ∙ record-same _ _ _ _ _ (pre .2) (pre .3)
@@ -26,17 +26,17 @@ returns c =
 
 -- what places 61 to 63 find, and the failures that they leave
 found : (c : tie.After-judge-booking) → let a = c .before .before .before .before .before .before .before .before .before .before .before .args in
-    c .judge-booking .result ≡ foundRows (a .reporters .now) (a .currencies .now) (a .row) (a .s .now) (a .c .now)
+    c .judge-booking .result ≡ foundRows (a .reporters .now) (a .currencies .now) (a .row) (a .«record» .now) (a .c .now)
 found c =
     let start = c .before .before .before .before .before .before .before .before .before .before .before in
     let a = start .args in
-    let field = indexed (a .s .now) (a .stops .now) (start .pre .2) in
+    let field = indexed (a .«record» .now) (a .stops .now) (start .pre .2) in
     let named = c .before .before .part .ensures .bytes ∙ field 16 in
     let number = c .before .part2 .ensures .bytes ∙ field 39 in
     c .judge-booking .ensures ∙ (λ i. bookingOf (a .c .now) (named i) (number i))
 
 failures : (c : tie.After-judge-booking) → let a = c .before .before .before .before .before .before .before .before .before .before .before .args in
-    c .judge-booking .result .failed ≡ stepFailures (a .reporters .now) (a .currencies .now) (a .row) (a .s .now) (a .c .now)
+    c .judge-booking .result .failed ≡ stepFailures (a .reporters .now) (a .currencies .now) (a .row) (a .«record» .now) (a .c .now)
 failures c =
     let tested = c .before .before .before .before in
     failures-found _ _ _ _ _ (judged (tested .before .before)) (tested .if1 .left) (found c) refl

@@ -20,12 +20,12 @@ enum-told c = search needs
 
 returns : tie.Need-returns
 returns c =
-    let s = c .before .before .before .before .before .args .s .now in
+    let s = c .before .before .before .before .before .args .«record» .now in
     c .answer-of .ensures ∙ ap (λ (k : Checked). answerOf (failedOf k) noReporter noRow s) (sym (c .before .before .checked .given .1))
 
 returns-2 : tie.Need-returns-2
 returns-2 c =
-    let s = c .before .before .before .before .before .args .s .now in
+    let s = c .before .before .before .before .before .args .«record» .now in
     c .answer-of2 .ensures ∙ ap (λ (f : Failures). answerOf f noReporter noRow s) (c .before .none .ensures)
     ∙ ap (λ (k : Checked). answerOf (failedOf k) noReporter noRow s) (sym (c .before .before .enum-told .given .1))
 

@@ -33,7 +33,7 @@ same-length-2 c = search needs
 returns-2 : tie.Need-returns-2
 returns-2 c =
     let back6 = c .before .before .before .before .before .before in
-    refused-exported _ _ _ _ _ _ _ (c .before .before .n .given .1) (back6 .record-call .ensures) (c .wide .ensures)
+    refused-exported _ _ _ _ _ _ _ (c .before .before .n .given .1) (back6 .record-call .ensures) (c .wide .ensures .0)
 
 same-length-3 : tie.Need-same-length-3
 same-length-3 c = search needs

@@ -10,7 +10,7 @@ wide-requires : tie.Need-wide-requires
 wide-requires c κs = search needs
 
 returns : tie.Need-returns
-returns c = short-refused (c .before .before .refusal .ensures) (c .before .if1 .taken) (c .wide .ensures)
+returns c = short-refused (c .before .before .refusal .ensures) (c .before .if1 .taken) (c .wide .ensures .0)
 
 returns-2 : tie.Need-returns-2
 returns-2 c = short-free (c .before .refusal .ensures) (c .if1 .left)

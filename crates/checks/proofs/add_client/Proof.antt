@@ -1,7 +1,7 @@
 use mathlib.Core.Path.{ap, _∙_}
 use Rattle.failures.specs.Failures.{addedFrom}
 use Rattle.client.specs.Client.{clientTests}
-use Rattle.checks.specs.Record.{clientOf}
+use Rattle.checks.specs.Record.{clientGroup}
 use borrow.Author.Needs.{needs}
 use Rattle.checks.proofs.add_client.Statement.{statement}
 use Rattle.checks.proofs.add_client.Tie as tie
@@ -10,7 +10,7 @@ slice-aggregate-add-from : tie.Need-slice-aggregate-add-from
 slice-aggregate-add-from c = search needs
 
 returns : tie.Need-returns
-unfolding clientOf
+unfolding clientGroup
 returns c =
     let back3 = c .before .before .before in
     let back4 = back3 .before in

@@ -1,7 +1,7 @@
 use mathlib.Core.Path.{ap, _∙_}
 use Rattle.failures.specs.Failures.{addedFrom}
 use Rattle.terms.specs.Derivative.{derivativeTests}
-use Rattle.checks.specs.Record.{derivativeBy}
+use Rattle.checks.specs.Record.{derivativeGroup}
 use borrow.Author.Needs.{needs}
 use Rattle.checks.proofs.add_derivative.Statement.{statement}
 use Rattle.checks.proofs.add_derivative.Tie as tie
@@ -10,7 +10,7 @@ slice-aggregate-add-from : tie.Need-slice-aggregate-add-from
 slice-aggregate-add-from c = search needs
 
 returns : tie.Need-returns
-unfolding derivativeBy
+unfolding derivativeGroup
 returns c =
     let c-args = c .before .before .before .before .before .before .before .before .args in
     let back3 = c .before .before .before in

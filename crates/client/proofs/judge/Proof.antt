@@ -10,7 +10,7 @@ returns c =
     let letters = form4 .before .before .before in
     rw (letters .before .letter-of .ensures, letters .letter-of2 .ensures)
     (rw (form4 .before .before .is-bank-code .ensures, form4 .before .is-swift .ensures, form4 .is-name .ensures)
-    (rw (form6 .before .lacks-form .ensures, form6 .first-byte .ensures, c .before .equal .ensures, c .same-party .ensures)))
+    (rw (form6 .before .lacks-form .ensures, form6 .first-byte .ensures, c .before .same .ensures, c .same-party .ensures)))
 
 pub judge-spec : {M : Type 1} → statement M
 judge-spec =

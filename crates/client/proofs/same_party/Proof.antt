@@ -9,7 +9,7 @@ returns c = rw (← c .before .before .letter-of .ensures, eq-eqb _ _ (c .before
 
 returns-2 : tie.Need-returns-2
 unfolding sameParty
-returns-2 c = rw (← c .before .before .letter-of .ensures, ne-eqb _ _ (c .before .if1 .left)) (c .equal .ensures)
+returns-2 c = rw (← c .before .before .letter-of .ensures, ne-eqb _ _ (c .before .if1 .left)) (c .same .ensures)
 
 pub same-party-spec : {M : Type 1} → statement M
 same-party-spec = tie.close (tie.spec (λ c κs. tt) (λ c κs. tt) (λ c κs. tt) returns returns-2)

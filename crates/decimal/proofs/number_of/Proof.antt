@@ -6,14 +6,14 @@ use lib.ListN.{length, drop}
 use lib.Dec.{lit<}
 use native.Mathlib.Omega.{arith}
 use Rattle.text.proofs.ByteLaws.{all-get}
-use Rattle.decimal.specs.Decimal.{number, numberAfter}
+use Rattle.decimal.specs.Decimal.{digitsValue, digitsValueAfter}
 use Rattle.decimal.proofs.DecimalLaws.{number-go, number-end, more-fits}
 use Rattle.text.proofs.NumberLaws.{digit-more}
 use Rattle.decimal.proofs.number_of.Statement.{statement}
 use Rattle.decimal.proofs.number_of.Tie as tie
 
 abbrev Inv-loop : tie.InvT-loop
-Inv-loop s v₀ i₀ v i = (i ≤ length s) × (number s ≡ numberAfter v (drop i s)) × (v < 10 ^ i)
+Inv-loop s v₀ i₀ v i = (i ≤ length s) × (digitsValue s ≡ digitsValueAfter v (drop i s)) × (v < 10 ^ i)
 
 abbrev μ-loop : tie.MeasureT-loop
 μ-loop s v₀ i₀ v i = length s - i

@@ -2,7 +2,7 @@ use mathlib.Core.Bool.{_&&_}
 use mathlib.Core.Path.{_∙_, sym}
 use native.Mathlib.Omega.{arith}
 use borrow.Author.Tests.{not-true, not-false}
-use Rattle.envelope.specs.Envelope.{Ordered, openedAs}
+use Rattle.envelope.specs.Envelope.{Ordered, envelopeOf}
 use Rattle.envelope.proofs.OpenedLaws.{head-read}
 use borrow.Author.Needs.{needs}
 use Rattle.envelope.proofs.open.Statement.{statement}
@@ -22,7 +22,7 @@ enum-told : tie.Need-enum-told
 enum-told c = search needs
 
 returns : tie.Need-returns
-unfolding openedAs
+unfolding envelopeOf
 returns c = rw (sym (c .before .before .read-head .ensures) ∙ (c .enum-told .given .1))
 
 sub-is-real-date : tie.Need-sub-is-real-date
@@ -56,7 +56,7 @@ is-real-minute-requires : tie.Need-is-real-minute-requires
 is-real-minute-requires c κs = search needs
 
 returns-2 : tie.Need-returns-2
-unfolding openedAs
+unfolding envelopeOf
 returns-2 c =
     let back6 = c .before .before .before .before .before .before in
     let back8 = back6 .before .before in
@@ -65,34 +65,34 @@ returns-2 c =
       (λ i. sym (c .before .before .before .is-real-date .ensures) i && sym (c .before .is-real-minute .ensures) i) ∙ not-true _ (c .if1 .taken),
     )
 
-sub-equal : tie.Need-sub-equal
-sub-equal c =
+sub-same : tie.Need-sub-same
+sub-same c =
     let back5 = c .before .before .before .before .before in
     let o = ordered (back5) in omega (arith, o .sender, o .receiver, o .date, o .time, o .word, o .wordEnd, o .end)
 
-sub-equal-2 : tie.Need-sub-equal-2
-sub-equal-2 c =
+sub-same-2 : tie.Need-sub-same-2
+sub-same-2 c =
     let back5 = c .before .before .before .before .before in
     let o = ordered (back5) in omega (arith, o .sender, o .receiver, o .date, o .time, o .word, o .wordEnd, o .end)
 
-part-equal-start : tie.Need-part-equal-start
-part-equal-start c =
+part-same-start : tie.Need-part-same-start
+part-same-start c =
     let back5 = c .before .before .before .before .before in
     let o = ordered (back5) in omega (arith, o .sender, o .receiver, o .date, o .time, o .word, o .wordEnd, o .end)
 
-part-equal-end : tie.Need-part-equal-end
-part-equal-end c =
+part-same-end : tie.Need-part-same-end
+part-same-end c =
     let back5 = c .before .before .before .before .before in
     let o = ordered (back5) in omega (arith, o .sender, o .receiver, o .date, o .time, o .word, o .wordEnd, o .end)
 
-slice-aggregate-equal : tie.Need-slice-aggregate-equal
-slice-aggregate-equal c = search needs
+slice-aggregate-same : tie.Need-slice-aggregate-same
+slice-aggregate-same c = search needs
 
-equal-requires : tie.Need-equal-requires
-equal-requires c κs = search needs
+same-requires : tie.Need-same-requires
+same-requires c κs = search needs
 
 returns-3 : tie.Need-returns-3
-unfolding openedAs
+unfolding envelopeOf
 returns-3 c =
     let back4 = c .before .before .before .before in
     let back5 = back4 .before in
@@ -102,14 +102,14 @@ returns-3 c =
     rw (
       sym (back12 .read-head .ensures) ∙ (back10 .h .given .1),
       (λ i. sym (back7 .is-real-date .ensures) i && sym (back5 .is-real-minute .ensures) i) ∙ not-false _ (back4 .if1 .left),
-      sym (c .before .equal .ensures) ∙ not-true _ (c .if2 .taken),
+      sym (c .before .same .ensures) ∙ not-true _ (c .if2 .taken),
     )
 
 open-body-requires : tie.Need-open-body-requires
 open-body-requires c κs = ordered (c .before .before .before .before .before .before .before .before .before)
 
 returns-4 : tie.Need-returns-4
-unfolding openedAs
+unfolding envelopeOf
 returns-4 c =
     let back5 = c .before .before .before .before .before in
     let back6 = back5 .before in
@@ -119,7 +119,7 @@ returns-4 c =
     rw (
       sym (back13 .read-head .ensures) ∙ (back11 .h .given .1),
       (λ i. sym (back8 .is-real-date .ensures) i && sym (back6 .is-real-minute .ensures) i) ∙ not-false _ (back5 .if1 .left),
-      sym (c .before .before .equal .ensures) ∙ not-false _ (c .before .if2 .left),
+      sym (c .before .before .same .ensures) ∙ not-false _ (c .before .if2 .left),
     ) (c .open-body .ensures)
 
 pub open-spec : {M : Type 1} → statement M
@@ -141,12 +141,12 @@ open-spec =
     part-is-real-minute-end
     is-real-minute-requires
     returns-2
-    sub-equal
-    sub-equal-2
-    part-equal-start
-    part-equal-end
-    slice-aggregate-equal
-    equal-requires
+    sub-same
+    sub-same-2
+    part-same-start
+    part-same-end
+    slice-aggregate-same
+    same-requires
     returns-3
     open-body-requires
     returns-4)

@@ -10,7 +10,7 @@ use Rattle.envelope.proofs.open_body.Statement.{statement}
 use Rattle.envelope.proofs.open_body.Tie as tie
 
 -- the word of the tail begins within the file
-word-in : (c : tie.After-equal-arg) → let start = c .before .before .before .before .before .before .before .before .before .before in
+word-in : (c : tie.After-same-arg) → let start = c .before .before .before .before .before .before .before .before .before .before in
     c .before .before .last .given .0 .0 < length (start .args .s .now)
 word-in c =
     let back4 = c .before .before .before .before in
@@ -49,29 +49,29 @@ returns-2 c =
       sym (c .before .before .read-tail .ensures) ∙ (c .enum-told2 .given .1),
     )
 
-sub-equal : tie.Need-sub-equal
-sub-equal c = search needs
+sub-same : tie.Need-sub-same
+sub-same c = search needs
 
-part-equal-start : tie.Need-part-equal-start
-part-equal-start c = search needs
+part-same-start : tie.Need-part-same-start
+part-same-start c = search needs
 
-part-equal-end : tie.Need-part-equal-end
-part-equal-end c = search needs
+part-same-end : tie.Need-part-same-end
+part-same-end c = search needs
 
-sub-equal-2 : tie.Need-sub-equal-2
-sub-equal-2 c = search needs
+sub-same-2 : tie.Need-sub-same-2
+sub-same-2 c = search needs
 
-sub-equal-3 : tie.Need-sub-equal-3
-sub-equal-3 c = omega (arith, word-in c)
+sub-same-3 : tie.Need-sub-same-3
+sub-same-3 c = omega (arith, word-in c)
 
-part-equal-start-2 : tie.Need-part-equal-start-2
-part-equal-start-2 c = omega (arith, word-in c)
+part-same-start-2 : tie.Need-part-same-start-2
+part-same-start-2 c = omega (arith, word-in c)
 
-part-equal-end-2 : tie.Need-part-equal-end-2
-part-equal-end-2 c = search needs
+part-same-end-2 : tie.Need-part-same-end-2
+part-same-end-2 c = search needs
 
-equal-requires : tie.Need-equal-requires
-equal-requires c κs = search needs
+same-requires : tie.Need-same-requires
+same-requires c κs = search needs
 
 returns-3 : tie.Need-returns-3
 unfolding bodyStage
@@ -83,7 +83,7 @@ returns-3 c =
     rw (
       sym (back11 .read-body .ensures) ∙ (back9 .b .given .1),
       sym (back7 .read-tail .ensures) ∙ (back5 .last .given .1),
-      sym (c .before .equal .ensures) ∙ not-true (c .before .equal .result) (c .if1 .taken),
+      sym (c .before .same .ensures) ∙ not-true (c .before .same .result) (c .if1 .taken),
     )
 
 returns-4 : tie.Need-returns-4
@@ -96,7 +96,7 @@ returns-4 c =
     rw (
       sym (back13 .read-body .ensures) ∙ (back11 .b .given .1),
       sym (back9 .read-tail .ensures) ∙ (back7 .last .given .1),
-      sym (c .before .before .before .equal .ensures) ∙ not-false (c .before .before .before .equal .result) (c .before .before .if1 .left),
+      sym (c .before .before .before .same .ensures) ∙ not-false (c .before .before .before .same .result) (c .before .before .if1 .left),
       lt-ltb _ _ (c .if2 .taken),
     )
 
@@ -114,7 +114,7 @@ returns-5 c =
     rw (
       sym (back14 .read-body .ensures) ∙ (back12 .b .given .1),
       sym (back10 .read-tail .ensures) ∙ (back8 .last .given .1),
-      sym (back4 .equal .ensures) ∙ not-false (back4 .equal .result) (c .before .before .before .if1 .left),
+      sym (back4 .same .ensures) ∙ not-false (back4 .same .result) (c .before .before .before .if1 .left),
       le-ltb _ _ (c .before .if2 .left),
     )
 
@@ -130,14 +130,14 @@ open-body-spec =
     enum-known-last
     enum-told-2
     returns-2
-    sub-equal
-    part-equal-start
-    part-equal-end
-    sub-equal-2
-    sub-equal-3
-    part-equal-start-2
-    part-equal-end-2
-    equal-requires
+    sub-same
+    part-same-start
+    part-same-end
+    sub-same-2
+    sub-same-3
+    part-same-start-2
+    part-same-end-2
+    same-requires
     returns-3
     returns-4
     sub-t11

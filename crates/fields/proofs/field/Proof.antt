@@ -1,20 +1,16 @@
--- `field` takes the part by the record's own index.
+-- `field` cuts out what lies at the place that `field_place` gives.
 -- Assumes nothing.
-use Rattle.fields.proofs.FieldLaws.{indexed-lies}
-use borrow.Author.Needs.{needs}
+use Rattle.fields.proofs.FieldLaws.{view-inside, lies-field}
 use Rattle.fields.proofs.field.Statement.{statement}
 use Rattle.fields.proofs.field.Tie as tie
 
-index-requires : tie.Need-index-requires
-index-requires c κs = search needs
-
-part-requires : tie.Need-part-requires
-part-requires c κs = search needs
+cut-requires : tie.Need-cut-requires
+cut-requires c κs = view-inside _ _ (c .field-place .ensures)
 
 returns : tie.Need-returns
 returns c =
-    let args = c .before .before .before .before .args in
-    indexed-lies (args .s) (args .n) (c .before .before .index .ensures) (c .part .ensures)
+    let a = c .before .before .before .args in
+    lies-field (a .«record») (a .n) (c .before .field-place .ensures) (c .cut .ensures)
 
 pub field-spec : {M : Type 1} → statement M
-field-spec = tie.close (tie.spec index-requires part-requires returns)
+field-spec = tie.close (tie.spec (λ c κs. tt) cut-requires returns)

@@ -18,7 +18,7 @@ returns c =
     let filled = c .before .before .before in
     let args = filled .before .before .before .args in
     let stops = filled .fill .ensures .1 (c .before .before .if1 .taken) in
-    c .place-of .ensures ∙ ap (λ (l : List ℕ). placeIn (length (args .s .now)) l (args .n)) stops ∙ placed (args .s .now) (args .n)
+    c .place-of .ensures ∙ ap (λ (l : List ℕ). placeIn (length (args .«record» .now)) l (args .n)) stops ∙ placed (args .«record» .now) (args .n)
 
 returns-2 : tie.Need-returns-2
 returns-2 c = c .empty-place .ensures ∙ sym (field-broken _ _ (sym (c .before .before .fill .ensures .0) ∙ c .before .if1 .left))

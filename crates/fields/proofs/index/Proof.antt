@@ -8,7 +8,7 @@ use Rattle.fields.proofs.index.Statement.{statement}
 use Rattle.fields.proofs.index.Tie as tie
 
 returns : tie.Need-returns
-returns c = index-short (c .before .before .args .s .now) (omega arith)
+returns c = index-short (c .before .before .args .«record» .now) (omega arith)
 
 fill-requires : tie.Need-fill-requires
 fill-requires c κs = search needs

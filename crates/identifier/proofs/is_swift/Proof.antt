@@ -7,7 +7,7 @@ returns : tie.Need-returns
 unfolding swiftForm
 returns c =
     let first = c .before .before in
-    rw (first .before .before .if1 .taken, c .all2 .ensures, c .before .rest .ensures, first .all .ensures, first .before .front .ensures) refl
+    rw (first .before .before .if1 .taken, c .all2 .ensures, c .before .rest .ensures .bytes, first .all .ensures, first .before .front .ensures .bytes) refl
 
 returns-2 : tie.Need-returns-2
 unfolding swiftForm

@@ -4,7 +4,7 @@ use Rattle.identifier.proofs.same_address.Statement.{statement}
 use Rattle.identifier.proofs.same_address.Tie as tie
 
 returns : tie.Need-returns
-returns c = c .equal .ensures ∙ address-equal-lengths _ _ (c .before .if1 .taken)
+returns c = c .same .ensures ∙ address-equal-lengths _ _ (c .before .if1 .taken)
 
 is-completion-requires : tie.Need-is-completion-requires
 is-completion-requires c κs = c .if2 .taken

@@ -13,6 +13,9 @@ row-requires c κs = search needs
 shared-slice-read-if1 : tie.Need-shared-slice-read-if1
 shared-slice-read-if1 c = search needs
 
+cast-result : tie.Need-cast-result
+cast-result c = search needs
+
 returns : tie.Need-returns
 returns c =
     let read = c .before .before in
@@ -65,6 +68,7 @@ is-linked-spec =
     row-requires
     (λ c κs. tt)
     shared-slice-read-if1
+    cast-result
     returns
     shared-slice-read-if2
     points-back-requires

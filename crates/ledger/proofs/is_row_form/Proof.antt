@@ -29,7 +29,7 @@ returns c =
     let w = named .before .before .before .before .args .w .now in
     let name = named .is-name .ensures ∙ ap (nameUpTo numberRoom) (named .before .number-of .ensures) in
     let padding = read .before .all .ensures ∙ ap (all isZero) (read .before .before .padding-of .ensures) in
-    let zeros = c .all2 .ensures ∙ ap (all isZero) (c .before .rest .ensures) in
+    let zeros = c .all2 .ensures ∙ ap (all isZero) (c .before .rest .ensures .bytes) in
     let belongs = c .before .before .is-side .ensures in
     λ i. leb live (state w) && leb (state w) cancellation && name i && padding i && leb (read .read-u64 .ensures i) largestQuantity && belongs i && zeros i
 

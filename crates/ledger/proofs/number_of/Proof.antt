@@ -8,7 +8,7 @@ shared-slice-read-wide : tie.Need-shared-slice-read-wide
 shared-slice-read-wide c = search needs
 
 returns : tie.Need-returns
-returns c = c .front .ensures ∙ (λ i. take (c .before .wide .ensures i) (c .before .before .before .rest .ensures i))
+returns c = c .front .ensures .bytes ∙ (λ i. take (c .before .wide .ensures .0 i) (c .before .before .before .rest .ensures .bytes i))
 
 pub number-of-spec : {M : Type 1} → statement M
 number-of-spec =

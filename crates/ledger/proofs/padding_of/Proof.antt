@@ -10,8 +10,8 @@ shared-slice-read-wide c = search needs
 
 returns : tie.Need-returns
 returns c =
-    let room = c .before .before .before .front .ensures ∙ ap (take numberRoom) (c .before .before .before .before .rest .ensures) in
-    (c .rest2 .ensures) ∙ (λ i. drop (c .before .wide .ensures i) (room i))
+    let room = c .before .before .before .front .ensures .bytes ∙ ap (take numberRoom) (c .before .before .before .before .rest .ensures .bytes) in
+    (c .rest2 .ensures .bytes) ∙ (λ i. drop (c .before .wide .ensures .0 i) (room i))
 
 pub padding-of-spec : {M : Type 1} → statement M
 padding-of-spec =

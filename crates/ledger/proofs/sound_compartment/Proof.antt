@@ -9,7 +9,7 @@ use Rattle.frame.specs.Every.{every}
 use Rattle.frame.proofs.EveryLaws.{every-none, every-more, every-broke, every-done}
 use Rattle.text.specs.Class.{isZero}
 use Rattle.text.specs.Bytes.{all}
-use Rattle.ledger.specs.Row.{state, filled}
+use Rattle.ledger.specs.Row.{state, filledRow}
 use Rattle.ledger.specs.Sound.{rowsOf, rowCount, compartmentSize, soundRow, soundCompartment}
 use Rattle.ledger.specs.Slots.{slotCount, slotOf}
 use Rattle.ledger.proofs.CheckLaws.{free-rest}
@@ -19,7 +19,7 @@ use Rattle.ledger.proofs.sound_compartment.Tie as tie
 
 abbrev Inv-loop : tie.InvT-loop
 Inv-loop c seen₀ k₀ seen k =
-    (k ≤ rowCount) × (length c ≡ compartmentSize) × (every k (soundRow (rowsOf c)) ≡ true) × (every k (λ j. filled (rowsOf c j)) ≡ true)
+    (k ≤ rowCount) × (length c ≡ compartmentSize) × (every k (soundRow (rowsOf c)) ≡ true) × (every k (λ j. filledRow (rowsOf c j)) ≡ true)
     × Marked seen c k × (length seen ≡ slotCount)
 
 abbrev μ-loop : tie.MeasureT-loop
@@ -48,7 +48,7 @@ returns-2 c =
     let l = turn .before .loop in
     let row = c .before .before .before .before in
     rw (eq-eqb _ _ (l .inv .1))
-    (c .is-zero .ensures ∙ ap (all isZero) (c .before .rest .ensures)
+    (c .is-zero .ensures ∙ ap (all isZero) (c .before .rest .ensures .bytes)
     ∙ free-rest _ (l .inv .1) (l .k) (turn .loop-test .taken) (l .inv .2) (ap state (sym (row .row .ensures .0)) ∙ c .before .before .if2 .taken))
 
 array-read-is-sound-filled : tie.Need-array-read-is-sound-filled Inv-loop μ-loop
@@ -59,7 +59,7 @@ is-sound-filled-requires c κs =
     let turn = c .before .before .before .before in
     let l = turn .before .loop in
     let lent = c .before .before .before .row .ensures .0 in
-    let full = ap filled (sym lent) ∙ ap not (ne-eqb _ _ (c .before .if2 .left)) in
+    let full = ap filledRow (sym lent) ∙ ap not (ne-eqb _ _ (c .before .if2 .left)) in
     let slot = c .slot-of .ensures .0 ∙ ap slotOf lent in
     ((l .inv .1, turn .loop-test .taken), ((l .inv .2, l .inv .3), (full, λ f. marked-fresh (l .seen) _ (l .k) (l .inv .4) slot (eqb-true _ 0 f))))
 
@@ -81,7 +81,7 @@ loop-again c =
       search needs,
       l .inv .1,
       every-more _ _ (l .inv .2) (sym (c .before .is-sound-filled .ensures) ∙ c .if3 .taken),
-      every-more _ _ (l .inv .3) (ap filled (sym lent) ∙ ap not (ne-eqb _ _ (read .before .if2 .left))),
+      every-more _ _ (l .inv .3) (ap filledRow (sym lent) ∙ ap not (ne-eqb _ _ (read .before .if2 .left))),
       marked-more (l .seen) _ (l .k) (l .inv .4) slot (omega (arith, l .inv .5, read .slot-of .ensures .1)),
       simp length-set (l .inv .5),
     )

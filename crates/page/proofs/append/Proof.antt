@@ -3,14 +3,14 @@ use native.Mathlib.Omega.{arith}
 use Prim.Native.Nat.{_≤_, _-_}
 use mathlib.Core.Path.{_≡_, refl, _∙_}
 use lib.ListN.{length, drop, length-set}
-use Rattle.page.specs.Page.{page, written}
-use Rattle.page.proofs.PageLaws.{written-full, written-more, written-done}
+use Rattle.page.specs.Page.{page, appended}
+use Rattle.page.proofs.PageLaws.{appended-full, appended-more, appended-done}
 use Rattle.page.proofs.append.Statement.{statement}
 use Rattle.page.proofs.append.Tie as tie
 
 abbrev Inv-loop : tie.InvT-loop
 Inv-loop out₀ at piece end₀ i₀ out end i =
-    (length out ≡ length out₀) × (i ≤ length piece) × (written (page out end) (drop i piece) ≡ written (page out₀ at) piece)
+    (length out ≡ length out₀) × (i ≤ length piece) × (appended (page out end) (drop i piece) ≡ appended (page out₀ at) piece)
 
 abbrev μ-loop : tie.MeasureT-loop
 μ-loop out₀ at piece end₀ i₀ out end i = length piece - i
@@ -22,7 +22,7 @@ same-length : tie.Need-same-length Inv-loop μ-loop
 same-length c = search needs
 
 returns : tie.Need-returns Inv-loop μ-loop
-returns c = written-full _ _ _ (omega arith) ∙ (c .before .before .loop .inv .2)
+returns c = appended-full _ _ _ (omega arith) ∙ (c .before .before .loop .inv .2)
 
 shared-slice-read-out : tie.Need-shared-slice-read-out Inv-loop μ-loop
 shared-slice-read-out c = search needs
@@ -42,13 +42,13 @@ loop-less c = search needs
 loop-again : tie.Need-loop-again Inv-loop μ-loop
 loop-again c =
     let c-loop = c .before .before .before .loop in
-    (simp length-set (c-loop .inv .0), search needs, written-more (c-loop .out) (c-loop .end) _ (c-loop .i) (omega arith) (omega arith) (c-loop .inv .2))
+    (simp length-set (c-loop .inv .0), search needs, appended-more (c-loop .out) (c-loop .end) _ (c-loop .i) (omega arith) (omega arith) (c-loop .inv .2))
 
 same-length-2 : tie.Need-same-length-2 Inv-loop μ-loop
 same-length-2 c = search needs
 
 returns-2 : tie.Need-returns-2 Inv-loop μ-loop
-returns-2 c = written-done (c .before .before .args .piece .now) (c .before .loop .i) (omega arith) (c .before .loop .inv .2)
+returns-2 c = appended-done (c .before .before .args .piece .now) (c .before .loop .i) (omega arith) (c .before .loop .inv .2)
 
 pub append-spec : {M : Type 1} → statement M
 append-spec =

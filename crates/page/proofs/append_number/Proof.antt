@@ -1,6 +1,6 @@
 use native.Mathlib.Omega.{arith}
 use mathlib.Core.Path.{ap, _∙_}
-use Rattle.page.specs.Page.{written}
+use Rattle.page.specs.Page.{appended}
 use Rattle.page.proofs.NumberLaws.{number-digits}
 use borrow.Author.Needs.{needs}
 use Rattle.page.proofs.append_number.Statement.{statement}
@@ -26,7 +26,7 @@ returns c =
     let made = c .before .before .before .before .before in
     let start = made .before .before .before in
     let spelt = number-digits (start .args .n) (made .decimal .result) (made .decimal .ensures .1 .0) (omega arith) (made .decimal .ensures .1 .1) in
-    c .before .before .append .ensures ∙ ap (written _) spelt
+    c .before .before .append .ensures ∙ ap (appended _) spelt
 
 pub append-number-spec : {M : Type 1} → statement M
 append-number-spec =

@@ -1,5 +1,5 @@
 use mathlib.Core.Path.{refl}
-use Rattle.page.proofs.PageLaws.{written-both}
+use Rattle.page.proofs.PageLaws.{appended-both}
 use Rattle.results.specs.Results.{acceptedText}
 use borrow.Author.Needs.{needs}
 use Rattle.results.proofs.accepted.Statement.{statement}
@@ -63,7 +63,7 @@ returns c =
       back21 .append2 .ensures,
       back26 .append-number .ensures,
       back30 .append .ensures,
-    ) (simp written-both refl)
+    ) (simp appended-both refl)
 
 pub accepted-spec : {M : Type 1} → statement M
 accepted-spec =

@@ -1,6 +1,6 @@
 use mathlib.Core.Path.{refl}
 use Rattle.page.specs.Page.{page}
-use Rattle.page.proofs.PageLaws.{written-both, written-length}
+use Rattle.page.proofs.PageLaws.{appended-both, appended-length}
 use Rattle.results.specs.Results.{lineText}
 use borrow.Author.Needs.{needs}
 use Rattle.results.proofs.append_line.Statement.{statement}
@@ -69,7 +69,7 @@ returns c =
       back30 .append .ensures,
       back35 .append-number .ensures,
       back17 .count .ensures,
-    ) (simp written-both refl)
+    ) (simp appended-both refl)
 
 same-length : tie.Need-same-length
 same-length c =
@@ -77,7 +77,7 @@ same-length c =
     let back26 = back13 .before .before .before .before .before .before .before .before .before .before .before .before .before in
     let back38 = back26 .before .before .before .before .before .before .before .before .before .before .before .before in
     let c-args = back38 .args in
-    written-length (page (c-args .out .now) (c-args .at)) _ (returns c)
+    appended-length (page (c-args .out .now) (c-args .at)) _ (returns c)
 
 pub append-line-spec : {M : Type 1} → statement M
 append-line-spec =

@@ -3,8 +3,8 @@ use native.Mathlib.Omega.{arith}
 use mathlib.Core.Path.{_≡_, refl, ap, _∙_}
 use Prim.Native.Nat.{ℕ, _-_, _≤_}
 use lib.ListN.{length}
-use Rattle.page.specs.Page.{page, written}
-use Rattle.page.proofs.PageLaws.{written-length}
+use Rattle.page.specs.Page.{page, appended}
+use Rattle.page.proofs.PageLaws.{appended-length}
 use Rattle.results.specs.Results.{linesText}
 use Rattle.results.proofs.ResultLaws.{lines-none, lines-more}
 use Rattle.results.proofs.append_lines.Statement.{statement}
@@ -12,7 +12,7 @@ use Rattle.results.proofs.append_lines.Tie as tie
 
 abbrev Inv-loop : tie.InvT-loop
 Inv-loop out₀ at answers n end₀ k₀ out end k =
-    (k ≤ n) × (length out ≡ length out₀) × (page out end ≡ written (page out₀ at) (linesText k answers))
+    (k ≤ n) × (length out ≡ length out₀) × (page out end ≡ appended (page out₀ at) (linesText k answers))
 
 abbrev μ-loop : tie.MeasureT-loop
 μ-loop out₀ at answers n end₀ k₀ out end k = n - k
@@ -43,7 +43,7 @@ loop-again c =
     let c-loop = back6 .loop in
     let more = lines-more (page (c-args .out .now) (c-args .at)) (c-args .answers .now) (c-loop .k) (c-loop .inv .2)
     (c .before .before .before .answer-to .ensures) (c .before .before .append-line .ensures) in
-    (search needs, written-length (page (c-args .out .now) (c-args .at)) _ more, more)
+    (search needs, appended-length (page (c-args .out .now) (c-args .at)) _ more, more)
 
 same-length : tie.Need-same-length Inv-loop μ-loop
 same-length c = search needs
@@ -52,7 +52,7 @@ returns : tie.Need-returns Inv-loop μ-loop
 returns c =
     let c-args' = c .before .before .before .before .args in
     let e : (c .before .loop .k) ≡ (c-args' .n) = omega arith in
-    (c .before .loop .inv .2) ∙ ap (λ (m : ℕ). written (page (c-args' .out .now) (c-args' .at)) (linesText m (c-args' .answers .now))) e
+    (c .before .loop .inv .2) ∙ ap (λ (m : ℕ). appended (page (c-args' .out .now) (c-args' .at)) (linesText m (c-args' .answers .now))) e
 
 pub append-lines-spec : {M : Type 1} → statement M
 append-lines-spec =

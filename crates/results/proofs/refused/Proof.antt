@@ -1,5 +1,5 @@
 use mathlib.Core.Path.{refl}
-use Rattle.page.proofs.PageLaws.{written-both}
+use Rattle.page.proofs.PageLaws.{appended-both}
 use Rattle.results.specs.Results.{refusedText}
 use borrow.Author.Needs.{needs}
 use Rattle.results.proofs.refused.Statement.{statement}
@@ -28,7 +28,7 @@ unfolding refusedText
 returns c =
     let back7 = c .before .before .before .before .before .before .before in
     let back11 = back7 .before .before .before .before in
-    rw (c .before .before .append2 .ensures, back7 .append-number .ensures, back11 .append .ensures) (simp written-both refl)
+    rw (c .before .before .append2 .ensures, back7 .append-number .ensures, back11 .append .ensures) (simp appended-both refl)
 
 pub refused-spec : {M : Type 1} → statement M
 refused-spec =

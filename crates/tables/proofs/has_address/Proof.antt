@@ -1,8 +1,8 @@
 -- `has_address` compares what was lent of row k, where there is such a row.
 -- Assumes nothing.
-use mathlib.Core.Path.{refl}
-use borrow.Author.Tests.{lt-ltb, le-ltb}
-use Rattle.tables.specs.Reporters.{hasAddress}
+use Rattle.identifier.specs.Identifier.{sameAddress}
+use Rattle.tables.specs.Reporters.{addressOf, hasAddress}
+use Rattle.tables.proofs.ReporterLaws.{row-tested, row-absent}
 use borrow.Author.Needs.{needs}
 use Rattle.tables.proofs.has_address.Statement.{statement}
 use Rattle.tables.proofs.has_address.Tie as tie
@@ -14,17 +14,14 @@ returns : tie.Need-returns
 unfolding hasAddress
 returns c =
     let inside = c .before .before .before in
-    rw (
-      ← inside .before .reporter-count .ensures,
-      lt-ltb _ _ (inside .if1 .taken),
-      c .same-address .ensures,
-      c .before .address-of .ensures,
-      c .before .before .row .ensures,
-    ) refl
+    row-tested _ _ _ addressOf sameAddress (inside .before .reporter-count .ensures) (inside .if1 .taken) (c .before .before .row .ensures)
+    (c .before .address-of .ensures) (c .same-address .ensures)
 
 returns-2 : tie.Need-returns-2
 unfolding hasAddress
-returns-2 c = rw (← (c .before .reporter-count .ensures), le-ltb _ _ (c .if1 .left)) refl
+returns-2 c =
+    let a = c .before .before .before .before .args in
+    row-absent (a .t .now) (a .f .now) (a .k) addressOf sameAddress (c .before .reporter-count .ensures) (c .if1 .left)
 
 pub has-address-spec : {M : Type 1} → statement M
 has-address-spec =

@@ -1,8 +1,8 @@
 -- `has_code` compares what was lent of row k, where there is such a row.
 -- Assumes nothing.
-use mathlib.Core.Path.{refl}
-use borrow.Author.Tests.{lt-ltb, le-ltb}
-use Rattle.tables.specs.Reporters.{hasCode}
+use Rattle.text.specs.Bytes.{same}
+use Rattle.tables.specs.Reporters.{codeOf, hasCode}
+use Rattle.tables.proofs.ReporterLaws.{row-tested, row-absent}
 use borrow.Author.Needs.{needs}
 use Rattle.tables.proofs.has_code.Statement.{statement}
 use Rattle.tables.proofs.has_code.Tie as tie
@@ -14,17 +14,14 @@ returns : tie.Need-returns
 unfolding hasCode
 returns c =
     let inside = c .before .before .before in
-    rw (
-      ← inside .before .reporter-count .ensures,
-      lt-ltb _ _ (inside .if1 .taken),
-      c .equal .ensures,
-      c .before .code-of .ensures,
-      c .before .before .row .ensures,
-    ) refl
+    row-tested _ _ _ codeOf same (inside .before .reporter-count .ensures) (inside .if1 .taken) (c .before .before .row .ensures)
+    (c .before .code-of .ensures) (c .same .ensures)
 
 returns-2 : tie.Need-returns-2
 unfolding hasCode
-returns-2 c = rw (← (c .before .reporter-count .ensures), le-ltb _ _ (c .if1 .left)) refl
+returns-2 c =
+    let a = c .before .before .before .before .args in
+    row-absent (a .t .now) (a .f .now) (a .k) codeOf same (c .before .reporter-count .ensures) (c .if1 .left)
 
 pub has-code-spec : {M : Type 1} → statement M
 has-code-spec =

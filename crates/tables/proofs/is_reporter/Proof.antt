@@ -17,7 +17,7 @@ returns c =
       swift .before .address-of .ensures,
       c .before .before .is-mailbox .ensures,
       c .is-zero .ensures,
-      c .before .rest .ensures,
+      c .before .rest .ensures .bytes,
     ) refl
 
 pub is-reporter-spec : {M : Type 1} → statement M

@@ -7,7 +7,7 @@ use Rattle.tables.proofs.mailbox_of.Tie as tie
 
 returns : tie.Need-returns
 unfolding mailboxOf
-returns c = rw (c .front .ensures, c .before .position .ensures, c .before .before .mailbox-bytes .ensures) refl
+returns c = rw (c .front .ensures .bytes, c .before .position .ensures, c .before .before .mailbox-bytes .ensures) refl
 
 pub mailbox-of-spec : {M : Type 1} → statement M
 mailbox-of-spec = tie.close (tie.spec (λ c κs. tt) (λ c κs. tt) (λ c κs. tt) returns)

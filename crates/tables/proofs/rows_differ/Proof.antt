@@ -26,10 +26,10 @@ returns-2 c =
     let coded = c .before .before .before in
     let lent = coded .before .before .before .before .before in
     rw (
-      coded .equal .ensures,
+      coded .same .ensures,
       coded .before .code-of2 .ensures,
       coded .before .before .code-of .ensures,
-      c .equal2 .ensures,
+      c .same2 .ensures,
       c .before .address-of2 .ensures,
       c .before .before .address-of .ensures,
       lent .row2 .ensures,

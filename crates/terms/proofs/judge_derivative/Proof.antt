@@ -7,17 +7,17 @@ use borrow.Author.Needs.{needs}
 use Rattle.terms.proofs.judge_derivative.Statement.{statement}
 use Rattle.terms.proofs.judge_derivative.Tie as tie
 
-slice-aggregate-equal : tie.Need-slice-aggregate-equal
-slice-aggregate-equal c = search needs
+slice-aggregate-same : tie.Need-slice-aggregate-same
+slice-aggregate-same c = search needs
 
-slice-aggregate-equal-2 : tie.Need-slice-aggregate-equal-2
-slice-aggregate-equal-2 c = search needs
+slice-aggregate-same-2 : tie.Need-slice-aggregate-same-2
+slice-aggregate-same-2 c = search needs
 
-slice-aggregate-equal-3 : tie.Need-slice-aggregate-equal-3
-slice-aggregate-equal-3 c = search needs
+slice-aggregate-same-3 : tie.Need-slice-aggregate-same-3
+slice-aggregate-same-3 c = search needs
 
-slice-aggregate-equal-4 : tie.Need-slice-aggregate-equal-4
-slice-aggregate-equal-4 c = search needs
+slice-aggregate-same-4 : tie.Need-slice-aggregate-same-4
+slice-aggregate-same-4 c = search needs
 
 returns : tie.Need-returns
 unfolding derivativeTests
@@ -25,10 +25,10 @@ returns c =
     let a = c .before .before .before .before .before .before .before .before .before .before .before .before .before .before .before .args in
     λ i.
     derivativeJudged (a .money21) (now (a .f29))
-    (c .before .before .before .before .before .before .before .before .before .equal .ensures i)
-    (c .before .before .before .before .before .before .before .equal2 .ensures i)
-    (c .before .before .before .before .before .equal3 .ensures i)
-    (c .before .before .before .equal4 .ensures i)
+    (c .before .before .before .before .before .before .before .before .before .same .ensures i)
+    (c .before .before .before .before .before .before .before .same2 .ensures i)
+    (c .before .before .before .before .before .same3 .ensures i)
+    (c .before .before .before .same4 .ensures i)
     (c .before .before .letter-of .ensures i)
     (c .before .is-decimal .ensures i)
     (c .is-decimal2 .ensures i)
@@ -37,13 +37,13 @@ pub judge-derivative-spec : {M : Type 1} → statement M
 judge-derivative-spec =
     tie.close
     (tie.spec
-    slice-aggregate-equal
+    slice-aggregate-same
     (λ c κs. tt)
-    slice-aggregate-equal-2
+    slice-aggregate-same-2
     (λ c κs. tt)
-    slice-aggregate-equal-3
+    slice-aggregate-same-3
     (λ c κs. tt)
-    slice-aggregate-equal-4
+    slice-aggregate-same-4
     (λ c κs. tt)
     (λ c κs. tt)
     (λ c κs. tt)

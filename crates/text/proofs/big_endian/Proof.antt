@@ -18,7 +18,7 @@ abbrev μ-loop : tie.MeasureT-loop
 
 loop-holds : tie.Need-loop-holds Inv-loop μ-loop
 loop-holds c =
-    let short : length (c .front .result .now) ≤ 8 = omega (arith, ap length (c .front .ensures), length-take 8 (c .before .before .args .s .now)) in
+    let short : length (c .front .result .now) ≤ 8 = omega (arith, ap length (c .front .ensures .bytes), length-take 8 (c .before .before .args .s .now)) in
     (search needs, short, big-none, lit< tt)
 
 shared-slice-read-b : tie.Need-shared-slice-read-b Inv-loop μ-loop
@@ -56,7 +56,7 @@ loop-again c =
     (search needs, l .inv .1, big-more _ _ (c .before .loop-test .taken) (l .inv .2), more c)
 
 returns : tie.Need-returns Inv-loop μ-loop
-returns c = big-end _ _ (c .loop-test .left) (c .before .loop .inv .2) ∙ ap bigEndian (c .before .before .front .ensures)
+returns c = big-end _ _ (c .loop-test .left) (c .before .loop .inv .2) ∙ ap bigEndian (c .before .before .front .ensures .bytes)
 
 pub big-endian-spec : {M : Type 1} → statement M
 big-endian-spec =

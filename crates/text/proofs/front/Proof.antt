@@ -1,7 +1,7 @@
-use mathlib.Core.Path.{sym}
+use mathlib.Core.Path.{refl, sym}
 use lib.Seq.{length-take-le, take-all}
 use native.Mathlib.Nat.{le-of-lt}
-use borrow.Author.Needs.{needs}
+use Rattle.text.proofs.PartLaws.{at-start}
 use Rattle.text.proofs.front.Statement.{statement}
 use Rattle.text.proofs.front.Tie as tie
 
@@ -9,10 +9,10 @@ slice-aggregate-result : tie.Need-slice-aggregate-result
 slice-aggregate-result c = sym (length-take-le _ _ (c .before .if1 .taken))
 
 returns : tie.Need-returns
-returns c = search needs
+returns c = record { bytes = refl; address = at-start (c .before .before .args .s) }
 
 returns-2 : tie.Need-returns-2
-returns-2 c = sym (take-all _ _ (le-of-lt (c .if1 .left)))
+returns-2 c = record { bytes = sym (take-all _ _ (le-of-lt (c .if1 .left))); address = at-start (c .before .args .s) }
 
 pub front-spec : {M : Type 1} → statement M
 front-spec = tie.close (tie.spec slice-aggregate-result returns returns-2)

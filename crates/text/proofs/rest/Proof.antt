@@ -3,6 +3,7 @@ use lib.ListN.{drop-of-length-le}
 use native.Mathlib.Nat.{le-of-lt}
 use denote.Ref.{now}
 use Rattle.text.proofs.ByteLaws.{take-rest}
+use Rattle.text.proofs.PartLaws.{rest-at, rest-none}
 use borrow.Author.Needs.{needs}
 use Rattle.text.proofs.rest.Statement.{statement}
 use Rattle.text.proofs.rest.Tie as tie
@@ -20,10 +21,14 @@ slice-aggregate-result : tie.Need-slice-aggregate-result
 slice-aggregate-result c = search needs
 
 returns : tie.Need-returns
-returns c = take-rest (c .before .before .args .k) (now (c .before .before .args .s))
+returns c =
+    let a = c .before .before .args in
+    record { bytes = take-rest (a .k) (now (a .s)); address = rest-at (a .s) (a .k) (c .before .if1 .taken) }
 
 returns-2 : tie.Need-returns-2
-returns-2 c = sym (drop-of-length-le (now (c .before .before .args .s)) (le-of-lt (c .before .if1 .left)))
+returns-2 c =
+    let a = c .before .before .args in
+    record { bytes = sym (drop-of-length-le (now (a .s)) (le-of-lt (c .before .if1 .left))); address = rest-none (a .s) (a .k) (c .before .if1 .left) }
 
 pub rest-spec : {M : Type 1} → statement M
 rest-spec =

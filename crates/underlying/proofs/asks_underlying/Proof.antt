@@ -6,7 +6,7 @@ use Rattle.underlying.proofs.asks_underlying.Tie as tie
 
 returns : tie.Need-returns
 unfolding asksUnderlying
-returns c = λ i. c .before .before .before .before .equal .ensures i || c .before .before .equal2 .ensures i || c .equal3 .ensures i
+returns c = λ i. c .before .before .before .before .same .ensures i || c .before .before .same2 .ensures i || c .same3 .ensures i
 
 pub asks-underlying-spec : {M : Type 1} → statement M
 asks-underlying-spec =

@@ -6,23 +6,23 @@ use Rattle.underlying.proofs.present_of.Tie as tie
 
 returns : tie.Need-returns
 unfolding presentOf
-returns c = rw (c .is-isin .ensures, c .before .before .before .rest .ensures, ← c .before .before .first-byte .ensures, c .before .match .keys1) refl
+returns c = rw (c .is-isin .ensures, c .before .before .before .rest .ensures .bytes, ← c .before .before .first-byte .ensures, c .before .match .keys1) refl
 
 returns-2 : tie.Need-returns-2
 unfolding presentOf
-returns-2 c = rw (c .before .before .rest .ensures, ← c .before .first-byte .ensures, c .match .keys2) refl
+returns-2 c = rw (c .before .before .rest .ensures .bytes, ← c .before .first-byte .ensures, c .match .keys2) refl
 
 returns-3 : tie.Need-returns-3
 unfolding presentOf
-returns-3 c = rw (c .before .before .rest .ensures, ← c .before .first-byte .ensures, c .match .keys3) refl
+returns-3 c = rw (c .before .before .rest .ensures .bytes, ← c .before .first-byte .ensures, c .match .keys3) refl
 
 returns-4 : tie.Need-returns-4
 unfolding presentOf
-returns-4 c = rw (c .before .before .rest .ensures, ← c .before .first-byte .ensures, c .match .keys4) refl
+returns-4 c = rw (c .before .before .rest .ensures .bytes, ← c .before .first-byte .ensures, c .match .keys4) refl
 
 returns-5 : tie.Need-returns-5
 unfolding presentOf
-returns-5 c = rw (c .theme-of .ensures, c .before .before .before .rest .ensures, ← c .before .before .first-byte .ensures, c .before .match .keys5) refl
+returns-5 c = rw (c .theme-of .ensures, c .before .before .before .rest .ensures .bytes, ← c .before .before .first-byte .ensures, c .before .match .keys5) refl
 
 returns-6 : tie.Need-returns-6
 unfolding presentOf

@@ -1,9 +1,9 @@
 use native.Mathlib.Omega.{arith}
-use mathlib.Core.Path.{_≡_, sym, _∙_}
+use mathlib.Core.Path.{_≡_, ap, sym, _∙_}
 use Rattle.ledger.specs.Sound.{soundLedger}
-use Rattle.envelope.specs.Envelope.{reportClass}
+use Rattle.envelope.specs.Envelope.{reportClass, openedAs}
 use Rattle.envelope.proofs.OpenedLaws.{Whole, opened-whole}
-use Rattle.calls.specs.FileSteps.{lentRefusal}
+use Rattle.calls.specs.Filing.{lentRefusal}
 use Rattle.calls.proofs.ReadingLaws.{file-lent, file-unopened, file-full, file-open, file-taken}
 use borrow.Author.Needs.{needs}
 use Rattle.calls.proofs.filing.file_call.Statement.{statement}
@@ -35,11 +35,11 @@ abbrev start : tie.After-known-told → tie.Start
 start c = c .before .before .before .before .before .before .before .before .before .before .before .before
 
 free : (c : tie.After-known-told) → let a = start c .args in
-    lentRefusal (a .reporters .now) (a .currencies .now) (a .file .now) (soundLedger (a .book .now)) ≡ 0
+    lentRefusal (a .reporters .now) (a .currencies .now) (a .file .now) (soundLedger (a .ledger .now)) ≡ 0
 free c = sym (c .before .before .before .before .before .lent-refusal .ensures) ∙ c .before .before .before .before .if1 .left
 
 whole : (c : tie.After-known-told) → Whole (start c .args .file .now) (c .before .opened .given .0 .0)
-whole c = opened-whole reportClass _ _ (sym (c .before .before .before .open-report .ensures) ∙ c .before .opened .given .1)
+whole c = opened-whole reportClass _ _ (sym (c .before .before .before .open-report .ensures) ∙ ap openedAs (c .before .opened .given .1))
 
 mul-if2 : tie.Need-mul-if2
 mul-if2 c = omega (arith, whole (c .before))
@@ -53,14 +53,14 @@ returns-3 c =
     file-full _ _ _ _ (start told .args .answers .now) (free told) (told .before .before .before .open-report .ensures) (told .before .opened .given .1)
     (c .if2 .taken)
 
-sub-from : tie.Need-sub-from
-sub-from c = omega (arith, whole (c .before .before))
+sub-sender : tie.Need-sub-sender
+sub-sender c = omega (arith, whole (c .before .before))
 
-part-from-start : tie.Need-part-from-start
-part-from-start c = omega (arith, whole (c .before .before))
+part-sender-start : tie.Need-part-sender-start
+part-sender-start c = omega (arith, whole (c .before .before))
 
-part-from-end : tie.Need-part-from-end
-part-from-end c = omega (arith, whole (c .before .before))
+part-sender-end : tie.Need-part-sender-end
+part-sender-end c = omega (arith, whole (c .before .before))
 
 sub-take-records : tie.Need-sub-take-records
 sub-take-records c = omega (arith, whole (c .before .before .before .before))
@@ -106,9 +106,9 @@ file-call-spec =
     mul-if2
     same-length-3
     returns-3
-    sub-from
-    part-from-start
-    part-from-end
+    sub-sender
+    part-sender-start
+    part-sender-end
     sub-take-records
     part-take-records-start
     part-take-records-end

@@ -9,11 +9,11 @@ use Rattle.calls.proofs.filing.take_records.Statement.{statement}
 use Rattle.calls.proofs.filing.take_records.Tie as tie
 
 abbrev Inv-loop : tie.InvT-loop
-Inv-loop reporters currencies book₀ from body answers₀ at₀ k₀ book answers at k =
-    Going reporters currencies from body book₀ answers₀ at k book answers
+Inv-loop reporters currencies ledger₀ sender body answers₀ at₀ k₀ book answers at k =
+    Going reporters currencies sender body ledger₀ answers₀ at k book answers
 
 abbrev μ-loop : tie.MeasureT-loop
-μ-loop reporters currencies book₀ from body answers₀ at₀ k₀ book answers at k = length body - at
+μ-loop reporters currencies ledger₀ sender body answers₀ at₀ k₀ book answers at k = length body - at
 
 loop-holds : tie.Need-loop-holds Inv-loop μ-loop
 loop-holds c = going-start _ _ _ _ _ _ (c .before .before .before .before .before .before .pre)

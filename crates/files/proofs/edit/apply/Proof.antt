@@ -1,15 +1,15 @@
 use borrow.Author.Needs.{needs}
 use native.Mathlib.Omega.{arith}
 use Rattle.page.specs.Page.{page}
-use Rattle.page.proofs.PageLaws.{written-within}
+use Rattle.page.proofs.PageLaws.{appended-within}
 use Rattle.files.proofs.edit.apply.Statement.{statement}
 use Rattle.files.proofs.edit.apply.Tie as tie
 
 before-requires : tie.Need-before-requires
 before-requires c κs = tt
 
-equal-requires : tie.Need-equal-requires
-equal-requires c κs = tt
+same-requires : tie.Need-same-requires
+same-requires c κs = tt
 
 returns : tie.Need-returns
 returns c = search needs
@@ -42,14 +42,14 @@ returns-2 : tie.Need-returns-2
 returns-2 c =
     let back9 = c .before .before .before .before .before .before .before .before .before in
     let back18 = back9 .before .before .before .before .before .before .before .before .before in
-    written-within (page (back18 .args .buffer .now) 0) _ (omega arith) (c .before .before .append .ensures)
+    appended-within (page (back18 .args .buffer .now) 0) _ (omega arith) (c .before .before .append .ensures)
 
 pub apply-spec : {M : Type 1} → statement M
 apply-spec =
     tie.close
     (tie.spec
     before-requires
-    equal-requires
+    same-requires
     returns
     slice-aggregate-append-edited
     front-requires

@@ -5,7 +5,7 @@ use mathlib.Core.Path.{_≡_, refl, sym}
 use lib.ListN.{length}
 use lib.Seq.{length-take-le}
 use Rattle.page.specs.Page.{page}
-use Rattle.page.proofs.PageLaws.{written-within}
+use Rattle.page.proofs.PageLaws.{appended-within}
 use Rattle.files.proofs.edit.edited.Statement.{statement}
 use Rattle.files.proofs.edit.edited.Tie as tie
 
@@ -21,7 +21,7 @@ append-requires c κs = tt
 loop-holds : tie.Need-loop-holds Inv-loop μ-loop
 loop-holds c =
     let back8 = c .before .before .before .before .before .before .before .before in
-    (refl, written-within (page (back8 .args .buffer .now) 0) _ (omega arith) (c .before .before .append .ensures), search needs)
+    (refl, appended-within (page (back8 .args .buffer .now) 0) _ (omega arith) (c .before .before .append .ensures), search needs)
 
 sub-rest : tie.Need-sub-rest Inv-loop μ-loop
 sub-rest c = search needs

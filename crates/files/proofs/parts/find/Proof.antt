@@ -19,8 +19,8 @@ rest-requires c κs = tt
 front-requires : tie.Need-front-requires Inv-loop μ-loop
 front-requires c κs = tt
 
-equal-requires : tie.Need-equal-requires Inv-loop μ-loop
-equal-requires c κs = tt
+same-requires : tie.Need-same-requires Inv-loop μ-loop
+same-requires c κs = tt
 
 returns : tie.Need-returns Inv-loop μ-loop
 returns c = search needs
@@ -46,7 +46,7 @@ find-spec =
     loop-holds
     rest-requires
     front-requires
-    equal-requires
+    same-requires
     returns
     add-i
     loop-less

@@ -1,17 +1,17 @@
 use borrow.Author.Needs.{needs}
 use native.Mathlib.Omega.{arith}
 use Rattle.text.proofs.NumberLaws.{put-out, put-in}
-use Rattle.text.proofs.write_u64.Statement.{statement}
-use Rattle.text.proofs.write_u64.Tie as tie
+use Rattle.text.proofs.put_at.Statement.{statement}
+use Rattle.text.proofs.put_at.Tie as tie
 
 returns : tie.Need-returns
-returns c = put-out 8 _ _ _ (omega arith)
+returns c = put-out _ _ _ _ (omega arith)
 
 sub-if2 : tie.Need-sub-if2
 sub-if2 c = search needs
 
 returns-2 : tie.Need-returns-2
-returns-2 c = put-out 8 _ _ _ (omega arith)
+returns-2 c = put-out _ _ _ _ (omega arith)
 
 add-put-number : tie.Need-add-put-number
 add-put-number c = search needs
@@ -32,10 +32,10 @@ same-length : tie.Need-same-length
 same-length c = search needs
 
 returns-3 : tie.Need-returns-3
-returns-3 c = put-in 8 _ _ _ (omega arith) (c .before .before .put-number .ensures)
+returns-3 c = put-in _ _ _ _ (omega arith) (c .before .before .put-number .ensures)
 
-pub write-u64-spec : {M : Type 1} → statement M
-write-u64-spec =
+pub put-at-spec : {M : Type 1} → statement M
+put-at-spec =
     tie.close
     (tie.spec
     returns

@@ -4,8 +4,8 @@ use mathlib.Core.Path.{_≡_}
 use lib.ListN.{length, take}
 use Rattle.text.specs.Bytes.{same}
 use Rattle.text.proofs.ByteLaws.{same-all, same-go, same-stop, same-end, same-apart}
-use Rattle.text.proofs.equal.Statement.{statement}
-use Rattle.text.proofs.equal.Tie as tie
+use Rattle.text.proofs.same.Statement.{statement}
+use Rattle.text.proofs.same.Tie as tie
 
 abbrev Inv-loop : tie.InvT-loop
 Inv-loop a b i₀ i = (i ≤ length a) × (length a ≡ length b) × (same a b ≡ same (take i a) (take i b))
@@ -46,8 +46,8 @@ loop-again c =
 returns-3 : tie.Need-returns-3 Inv-loop μ-loop
 returns-3 c = same-end _ _ (c .before .loop .inv .1) _ (c .before .loop .inv .2) (c .loop-test .left)
 
-pub equal-spec : {M : Type 1} → statement M
-equal-spec =
+pub same-spec : {M : Type 1} → statement M
+same-spec =
     tie.close
     (tie.spec
     Inv-loop

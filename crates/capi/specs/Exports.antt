@@ -1,0 +1,70 @@
+-- Demand 3 of document 01 for the exported calls: a list of single-record calls and file calls in any mix, each with the buffer that it is lent.
+-- Assumes nothing.
+use Prim.Native.Nat.{ℕ, _*_}
+use mathlib.Core.Bool.{Bool, true, not, cond}
+use mathlib.Core.List.{List, [], _∷_, _++_, map}
+use mathlib.Core.Path.{_≡_}
+use lib.Dec.{eqb, ltb}
+use lib.ListN.{length, take, getD}
+use Rattle.frame.specs.Reply.{Reply, refusalIn}
+use Rattle.text.specs.Bytes.{all}
+use Rattle.answer.specs.Answer.{answerSize}
+use Rattle.calls.specs.Call.{called, refusalOf}
+use Rattle.calls.specs.Filing.{readingOf}
+use Rattle.calls.specs.Mixed.{Request, record-call, file-call, ledgerOver, answersOver, FilesIsolated}
+use Rattle.capi.specs.Exported.{Exported, recordExport, fileExport, shortNumber}
+
+-- one exported call that is lent the ledger: sender, record and answer buffer; or file and answer buffer
+pub data Export : Type 0 where
+  record-export : List ℕ → List ℕ → List ℕ → Export
+  file-export : List ℕ → List ℕ → Export
+
+module _ (reporters currencies : List ℕ) where
+  -- what it returns and leaves, on the ledger as it then is; the lent word of a file call is 0 before it
+  abbrev pub exportOf : Export → List ℕ → Exported
+  exportOf (record-export sender «record» a) l = recordExport reporters currencies sender «record» l a
+  exportOf (file-export file a) l = fileExport reporters currencies file l a 0
+
+  -- the answers that it writes from its buffer's start: none where it is refused
+  abbrev pub exportAnswers : Export → List ℕ → List ℕ
+  exportAnswers (record-export sender «record» a) l =
+      let o = exportOf (record-export sender «record» a) l in cond (eqb (o .reply) 0) (take answerSize (o .buffer)) []
+  exportAnswers (file-export file a) l =
+      let o = exportOf (file-export file a) l in cond (eqb (o .reply) 0) (take (getD (o .words) 0 0 * answerSize) (o .buffer)) []
+
+  -- a list of them, each on the ledger that the last one left
+  abbrev pub ledgerThrough : List Export → List ℕ → List ℕ
+  ledgerThrough [] l = l
+  ledgerThrough (x ∷ xs) l = ledgerThrough xs (exportOf x l .ledger)
+
+  abbrev pub answersThrough : List Export → List ℕ → List ℕ
+  answersThrough [] l = []
+  answersThrough (x ∷ xs) l = exportAnswers x l ++ answersThrough xs (exportOf x l .ledger)
+
+  abbrev pub repliesThrough : List Export → List ℕ → List ℕ
+  repliesThrough [] l = []
+  repliesThrough (x ∷ xs) l = exportOf x l .reply ∷ repliesThrough xs (exportOf x l .ledger)
+
+  -- the requests that it stands for: none where its buffer has no room for one answer
+  abbrev pub exportRequests : Export → List Request
+  exportRequests (record-export sender «record» a) = cond (ltb (length a) answerSize) [] (record-call (called sender «record») ∷ [])
+  exportRequests (file-export file a) = file-call file a ∷ []
+
+  abbrev pub requestsOver : List Export → List Request
+  requestsOver [] = []
+  requestsOver (x ∷ xs) = exportRequests x ++ requestsOver xs
+
+  -- what it returns on every sound ledger
+  abbrev pub soundNumber : Export → ℕ
+  soundNumber (record-export sender «record» a) =
+      let n = refusalOf reporters currencies (called sender «record») true in cond (ltb (length a) answerSize) (shortNumber n) n
+  soundNumber (file-export file a) = refusalIn (readingOf reporters currencies file (length a) true)
+
+  -- The claim: ledger and answers are those of the requests that the calls stand for, and demand 3 holds of these; each call returns what it returns on
+  -- every sound ledger, and 4 is never among the replies.
+  pub record ExportsIsolated (xs : List Export) (l : List ℕ) : Type 0 where
+    pub sameLedger : ledgerThrough xs l ≡ ledgerOver reporters currencies (requestsOver xs) l
+    pub sameAnswers : answersThrough xs l ≡ answersOver reporters currencies (requestsOver xs) l
+    pub sameReplies : repliesThrough xs l ≡ map soundNumber xs
+    pub neverFour : all (λ n. not (eqb n 4)) (repliesThrough xs l) ≡ true
+    pub isolated : FilesIsolated reporters currencies (requestsOver xs) l
