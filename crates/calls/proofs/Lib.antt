@@ -6,3 +6,4 @@ pub mod RecordLaws
 pub mod ReadingLaws
 pub mod TakingLaws
 pub mod Files
+pub mod Worked

@@ -1,14 +1,16 @@
 -- "Worked inputs" of document 01: its tables, its sender, the all-zero ledger, and a report file round a body.
 -- Assumes nothing.
 use Prim.Native.Nat.{ℕ}
+use Prim.Native.Char.{code}
 use Prim.Native.String.{String}
-use mathlib.Core.List.{List, _++_}
+use mathlib.Core.List.{List, [], _∷_, _++_}
 use lib.ListN.{replicate}
+use Rattle.text.specs.Number.{lowBytes}
 use Rattle.text.specs.Text.{bytes}
 use Rattle.ledger.specs.Sound.{ledgerSize}
 
 -- a row of the reporters table: 24 bytes, then zeros
-abbrev workedRow : String → List ℕ
+abbrev pub workedRow : String → List ℕ
 workedRow t = bytes t ++ replicate 8 0
 
 unfoldable pub workedReporters : List ℕ
@@ -22,6 +24,22 @@ workedSender = bytes "MBONE"
 
 unfoldable pub emptyLedger : List ℕ
 emptyLedger = replicate ledgerSize 0
+
+-- the sixteen bytes of the answer to R1: no failure, code 0, row 0, booked, in new row 0, 102 bytes
+unfoldable pub r1Answer : List ℕ
+r1Answer = 0 ∷ 0 ∷ 0 ∷ 0 ∷ 0 ∷ 0 ∷ 0 ∷ 0 ∷ 0 ∷ 0 ∷ 0 ∷ 0 ∷ 0 ∷ 0 ∷ 102 ∷ 0 ∷ []
+
+-- and to R5: the set 87,960,930,222,080 (places 44 and 46), code 282, row 0, status 2, no new row, 102 bytes
+unfoldable pub r5Answer : List ℕ
+r5Answer = lowBytes 8 87_960_930_222_080 ++ (0x1A ∷ 1 ∷ 0 ∷ 2 ∷ 255 ∷ 255 ∷ 102 ∷ 0 ∷ [])
+
+-- the row that R1 is booked in: live, a number of two bytes, A1, 1,500 in ten-thousandths, no partner, B
+unfoldable pub r1Row : List ℕ
+r1Row = 1 ∷ 2 ∷ bytes "A1" ++ (replicate 14 0 ++ (lowBytes 8 15_000_000 ++ (255 ∷ 255 ∷ code "B" ∷ 0 ∷ 0 ∷ 0 ∷ [])))
+
+-- the answer to an empty record: place 0, code 9001, no row, status 1, no new row, no byte
+unfoldable pub blankAnswer : List ℕ
+blankAnswer = 1 ∷ 0 ∷ 0 ∷ 0 ∷ 0 ∷ 0 ∷ 0 ∷ 0 ∷ (lowBytes 2 9001 ++ (255 ∷ 1 ∷ 255 ∷ 255 ∷ 0 ∷ 0 ∷ []))
 
 -- a report of that sender with the given body
 unfoldable pub workedFile : List ℕ → List ℕ

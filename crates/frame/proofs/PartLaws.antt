@@ -7,7 +7,7 @@ use native.Mathlib.Omega.{arith}
 use mathlib.Core.Path.{_≡_, refl, ap, subst, sym, _∙_}
 use mathlib.Core.List.{List, [], _∷_, _++_}
 use mathlib.Core.Logic.{_≢_}
-use lib.ListN.{length, getD, take, drop, length-append, length-take, length-drop, List·getD-append}
+use lib.ListN.{length, getD, take, drop, replicate, length-append, length-take, length-drop, length-replicate, getD-replicate, List·getD-append, take-append-drop}
 use lib.Seq.{take-at, drop-at, getD-append-add, getD-take, getD-drop, length-take-le, ext-getD}
 use Rattle.frame.specs.Parts.{part, put}
 
@@ -92,3 +92,18 @@ unfolding put
 put-lent size k ys xs =
     let e : k * size + size - k * size ≡ size = omega arith in
     ap (λ (n : ℕ). take (k * size) xs ++ (ys ++ drop n (drop (k * size) xs))) e
+
+-- a part put back as it was
+pub put-own : (size k : ℕ) (xs : List ℕ) → put size k (part size k xs) xs ≡ xs
+unfolding part put
+put-own size k xs =
+    ap (λ (ys : List ℕ). take (k * size) xs ++ ys) (take-append-drop size (drop (k * size) xs)) ∙ take-append-drop (k * size) xs
+
+-- a part of a list that repeats one element repeats it too
+pub part-replicate : (size k n x : ℕ) → k * size + size ≤ n → part size k (replicate n x) ≡ replicate size x
+part-replicate size k n x fits =
+    let inside : k * size + size ≤ length (replicate n x) = rw (length-replicate n x) fits in
+    let long : length (part size k (replicate n x)) ≡ size = part-length size k (replicate n x) inside in
+    ext-getD 0 _ _ (long ∙ sym (length-replicate size x))
+    (λ i h. let h : i < size = rw long at h in
+    part-at size k (replicate n x) i h ∙ getD-replicate n (k * size + i) x 0 (omega arith) ∙ sym (getD-replicate size i x 0 h))

@@ -12,7 +12,7 @@ use lib.ListN.{length, take, drop, drop-of-length-le}
 use lib.Seq.{drop-drop}
 use Rattle.frame.specs.Every.{every}
 use Rattle.frame.specs.Parts.{part}
-use Rattle.frame.proofs.BoolLaws.{and-left, and-right, and-intro, and-assoc}
+use Rattle.frame.proofs.BoolLaws.{and-assoc, and-false, and-intro, and-left, and-right, and-true}
 use Rattle.frame.proofs.EveryLaws.{every-at, every-intro}
 use Rattle.text.specs.Class.{isZero}
 use Rattle.text.specs.Bytes.{all}
@@ -29,6 +29,13 @@ and-goes a h e = rw h e
 
 pub and-stops : (a b : Bool) → a ≡ false → a ≡ a && b
 and-stops a b h = rw h
+
+-- the same, where the second is tested first
+pub and-comes : (a b : Bool) {r : Bool} → b ≡ true → r ≡ a → r ≡ a && b
+and-comes a b h e = rw (h, and-true) e
+
+pub and-fails : (a b : Bool) → b ≡ false → b ≡ a && b
+and-fails a b h = rw (h, and-false)
 
 -- a filled row is sound where it has the form, another number than the rows before it, and the links that its state asks
 sound-filled : (ρ : Rows) (k : ℕ) → filledRow (ρ k) ≡ true → soundRow ρ k ≡ (rowForm (ρ k) && (every k (precedes ρ (number (ρ k))) && linked ρ k))

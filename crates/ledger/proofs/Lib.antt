@@ -4,3 +4,4 @@ pub mod LookupLaws
 pub mod RowLaws
 pub mod SoundLaws
 pub mod SlotLaws
+pub mod EmptyLaws

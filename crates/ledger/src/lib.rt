@@ -284,12 +284,12 @@ fn is_asked(state: u8, any: bool) -> bool
     (state == LIVE) | any & !(state == FREE)
 }
 
-// Whether the state of a row is asked for, and its number is n.
+// Whether the state of a row is asked for, and its number is n; the number first, since most rows that are looked at have another.
 fn is_asked_with<'a>(w: &'a [u8], n: &'a [u8], any: bool) -> bool
     requires { ⌜ length (now w) ≡ rowSize ⌝ }
     ensures { λ r. ⌜ r ≡ (isAsked any (state (now (w .entry))) && same (number (now (w .entry))) (now (n .entry))) ⌝ }
 {
-    is_asked(w[STATE_PLACE], any) && text::same(number_of(w), n)
+    text::same(number_of(w), n) && is_asked(w[STATE_PLACE], any)
 }
 
 // The next row, from a row on, that may have the number n: the last byte of n stands in it where the number would end. Numbers begin alike, so

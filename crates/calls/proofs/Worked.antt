@@ -1,0 +1,190 @@
+-- Worked inputs of document 01, through the calls: R1 and R5 called singly on the all-zero ledger, and files of the bodies of one and of two CR LF.
+-- Assumes nothing.
+use Prim.Native.Nat.{ℕ, _-_, _*_, _≤_, _<_}
+use Prim.Native.Char.{code}
+use native.Mathlib.Omega.{arith}
+use mathlib.Core.Bool.{true, false}
+use mathlib.Core.List.{List, [], _∷_, _++_, append-nil, map, head-eq-of-cons-eq, tail-eq-of-cons-eq}
+use mathlib.Core.Path.{_≡_, refl, ap, sym, _∙_}
+use borrow.Author.Tests.{le-ltb, leb-true}
+use lib.Count.{trailingZeros}
+use lib.ListN.{length, drop, replicate}
+use Rattle.frame.specs.Every.{every, least}
+use Rattle.frame.specs.Parts.{part, put}
+use Rattle.frame.specs.Reply.{Reply, refused, accepted}
+use Rattle.frame.specs.Isolation.{Outcome, single, Isolated}
+use Rattle.frame.proofs.Isolation.{single-stranger, single-step}
+use Rattle.frame.proofs.PartLaws.{part-replicate, put-own}
+use Rattle.text.specs.Bytes.{all, same, positionOf}
+use Rattle.text.specs.Number.{littleEndian, lowBytes, numberAt}
+use Rattle.text.specs.Text.{bytes}
+use Rattle.text.specs.Order.{orderOf}
+use Rattle.decimal.specs.Decimal.{decimalOf, decimalAt, wholeOnly, wholeAndPart, digitsUpTo, digitsValueAfter}
+use Rattle.calendar.specs.Calendar.{digitsExactly, realDate, realDay, daysIn, realMinute, realSecond}
+use Rattle.identifier.specs.Identifier.{bankCode, swiftForm, completed, sameAddress, nameUpTo}
+use Rattle.identifier.specs.Isin.{isinForm, letterValue, digitsOf, digits, weighted, digitSum, checkDigitRight}
+use Rattle.failures.specs.Failures.{holds, added, addedFrom}
+use Rattle.failures.specs.Codes.{codes, codeAt}
+use Rattle.fields.specs.Fields.{semicolonsFrom, isWhole, fieldStart, fieldEnd, fieldPlace, fieldOf}
+use Rattle.fields.specs.Forms.{letter}
+use Rattle.fields.specs.Worked.{workedRecord, r1, r5}
+use Rattle.tables.specs.Reporters.{mailboxOf, mailboxForm, reporterForm, reportersDiffer, reporterOk, reportersOk}
+use Rattle.tables.specs.Reporters.{hasCode, hasAddress, hasMailbox, rowByCode, rowByAddress}
+use Rattle.tables.specs.Currencies.{isSpecial, isMoney, currencyOk, currenciesOk}
+use Rattle.ledger.specs.Row.{rowSize}
+use Rattle.ledger.specs.Sound.{compartmentSize, ledgerSize, bankCount, soundLedger}
+use Rattle.ledger.specs.Lookup.{freeRow, rowByNumber, liveRow}
+use Rattle.ledger.proofs.EmptyLaws.{empty-ledger}
+use Rattle.booking.specs.Booking.{padded, newRow, entered, canBook, booked}
+use Rattle.sender.specs.Sender.{reporterRow, reporterTests, senderTests, senderCheck}
+use Rattle.client.specs.Client.{lacksForm, sameParty, clientTests}
+use Rattle.trade.specs.Trade.{venueForm, tradeTests}
+use Rattle.trade.specs.Instrument.{instrumentTests}
+use Rattle.terms.specs.Terms.{termsTests}
+use Rattle.terms.specs.Capacity.{namesOwn, capacityTests}
+use Rattle.terms.specs.Derivative.{derivativeTests}
+use Rattle.terms.specs.Marks.{markTests}
+use Rattle.underlying.specs.Underlying.{asksUnderlying, isMissing, isTheme, presentTests, underlyingTests}
+use Rattle.checks.specs.Record.{clientGroup, tradeGroup, instrumentGroup, termsGroup, capacityGroup, derivativeGroup, underlyingGroup, marksGroup}
+use Rattle.checks.specs.Record.{recordTests, recordFailures}
+use Rattle.checks.specs.Booking.{namedRow, bookingTests, bookingOf}
+use Rattle.checks.specs.Verdict.{failuresFrom7, statusAt}
+use Rattle.answer.specs.Answer.{answerSize, answerBytes}
+use Rattle.envelope.specs.Pieces.{runOf, begins, textEnd, partEnd, partThen}
+use Rattle.envelope.specs.Body.{crlf, recordsOf, linesAt, bodyAt}
+use Rattle.envelope.specs.Envelope.{headOf, tailOf, bodyStage, envelopeOf, reportOf, recordsFrom}
+use Rattle.calls.specs.Call.{Call, called, recordForm, refusalOf, checkedOf, rowOf, answerOf, stepFailures, stepAnswer, bookedAs, stepCompartment}
+use Rattle.calls.specs.Rules.{rules}
+use Rattle.calls.specs.Filing.{fileLimit, reportCalls, openedReading, readingOf, answersIn, fileOutcome, carriedOut, fileOf}
+use Rattle.calls.specs.Worked.{workedReporters, workedCurrencies, workedSender, emptyLedger, r1Answer, r5Answer, r1Row, blankAnswer, workedFile}
+use Rattle.calls.proofs.CallLaws.{accepted-call, refusal-is}
+use Rattle.calls.proofs.Demand3.{demand3}
+use Rattle.calls.proofs.ReadingLaws.{lent-none, reading-on}
+
+-- The worked tables are as document 01 asks, and the all-zero ledger is sound: what theorem demand3 asks can be met.
+pub worked-reporters : reportersOk workedReporters ≡ true
+unfolding workedReporters reportersOk reporterOk reporterForm reportersDiffer mailboxOf mailboxForm every part all same positionOf bankCode swiftForm nameUpTo
+worked-reporters = refl
+
+pub worked-currencies : currenciesOk workedCurrencies ≡ true
+unfolding workedCurrencies currenciesOk currencyOk isSpecial every part all same orderOf
+worked-currencies = refl
+
+pub empty-sound : soundLedger emptyLedger ≡ true
+unfolding emptyLedger
+empty-sound = empty-ledger ledgerSize refl
+
+pub demand3-met : (calls : List Call) → Isolated (rules workedReporters workedCurrencies) calls emptyLedger
+demand3-met calls = demand3 workedReporters workedCurrencies calls emptyLedger empty-sound
+
+-- of two lists of two
+second : {A : Type 0} {a b c d : A} → a ∷ b ∷ [] ≡ c ∷ d ∷ [] → b ≡ d
+second e = head-eq-of-cons-eq (tail-eq-of-cons-eq e)
+
+-- a record called singly by the worked sender on the all-zero ledger
+abbrev calledAlone : List ℕ → Outcome (List ℕ)
+calledAlone s = single (rules workedReporters workedCurrencies) (called workedSender s) emptyLedger
+
+abbrev zeros : List ℕ
+zeros = replicate compartmentSize 0
+
+zeros-part : part compartmentSize 0 emptyLedger ≡ zeros
+unfolding emptyLedger
+zeros-part = part-replicate compartmentSize 0 ledgerSize 0 (omega arith)
+
+-- one that is in form and passes the sender check for row 0 is judged and booked on a compartment of zeros
+on-zeros : (s : List ℕ) → recordForm s ≡ true → rowOf (checkedOf workedReporters (called workedSender s)) ≡ 0
+    → calledAlone s
+    ≡ record {
+      reply = accepted (answerBytes (stepAnswer workedReporters workedCurrencies 0 s zeros));
+      ledger = put compartmentSize 0 (stepCompartment workedReporters workedCurrencies 0 s zeros) emptyLedger;
+    }
+unfolding nameUpTo all
+on-zeros s form row =
+    let call : Call = called workedSender s in
+    let free : refusalOf workedReporters workedCurrencies call (soundLedger emptyLedger) ≡ 0
+    = sym (accepted-call workedReporters workedCurrencies call (soundLedger emptyLedger) worked-reporters worked-currencies empty-sound refl form) in
+    single-step (rules workedReporters workedCurrencies) call emptyLedger 0 (refusal-is workedReporters workedCurrencies call emptyLedger (sym free)) row (omega arith)
+    ∙ (λ i. record {
+      reply = accepted (answerBytes (stepAnswer workedReporters workedCurrencies (row i) s (zeros-part i)));
+      ledger = put compartmentSize 0 (stepCompartment workedReporters workedCurrencies (row i) s (zeros-part i)) emptyLedger;
+    })
+
+-- what the step computes of R1 and R5 on a compartment of zeros
+passed-rows : map (λ s. rowOf (checkedOf workedReporters (called workedSender s))) (r1 ∷ r5 ∷ []) ≡ 0 ∷ 0 ∷ []
+unfolding workedRecord workedReporters checkedOf senderCheck senderTests reporterTests reporterRow rowByCode rowByAddress hasCode hasMailbox mailboxOf isWhole
+    semicolonsFrom fieldStart fieldEnd fieldPlace fieldOf letter same positionOf part least added addedFrom holds
+passed-rows = refl
+
+in-form : map recordForm (r1 ∷ r5 ∷ []) ≡ true ∷ true ∷ []
+unfolding workedRecord recordForm all
+in-form = refl
+
+abbrev stepped : List ℕ → List ℕ × List ℕ
+stepped s = (answerBytes (stepAnswer workedReporters workedCurrencies 0 s zeros), stepCompartment workedReporters workedCurrencies 0 s zeros)
+
+steps : map stepped (r1 ∷ r5 ∷ []) ≡ (r1Answer, r1Row ++ replicate (compartmentSize - rowSize) 0) ∷ (r5Answer, zeros) ∷ []
+unfolding workedRecord workedReporters workedCurrencies r1Answer r5Answer r1Row least part put all same positionOf decimalOf decimalAt wholeOnly wholeAndPart
+    digitsUpTo digitsValueAfter digitsExactly realDate realDay daysIn realSecond bankCode swiftForm completed sameAddress nameUpTo isinForm letterValue
+    digitsOf digits weighted digitSum checkDigitRight holds added addedFrom codes codeAt isWhole semicolonsFrom fieldStart fieldEnd fieldPlace fieldOf letter
+    hasCode hasAddress isSpecial isMoney lacksForm sameParty clientTests venueForm tradeTests instrumentTests termsTests namesOwn capacityTests
+    derivativeTests markTests asksUnderlying isMissing isTheme presentTests underlyingTests clientGroup tradeGroup instrumentGroup termsGroup
+    capacityGroup derivativeGroup underlyingGroup marksGroup recordTests recordFailures padded newRow entered canBook booked lowBytes numberAt littleEndian
+    freeRow rowByNumber liveRow namedRow bookingTests bookingOf failuresFrom7 statusAt stepFailures answerOf stepAnswer bookedAs stepCompartment answerBytes
+    trailingZeros
+steps = refl
+
+-- R1 is booked in row 0 of compartment 0, and the rest of the ledger stays; R5 is answered with its set, and nothing is booked
+pub worked :
+    map (λ r. single (rules workedReporters workedCurrencies) (called workedSender r) emptyLedger) (r1 ∷ r5 ∷ [])
+    ≡ record { reply = accepted r1Answer; ledger = put compartmentSize 0 (r1Row ++ replicate (compartmentSize - rowSize) 0) emptyLedger }
+    ∷ record { reply = accepted r5Answer; ledger = emptyLedger }
+    ∷ []
+worked =
+    (λ i. on-zeros r1 (head-eq-of-cons-eq in-form) (head-eq-of-cons-eq passed-rows) i
+    ∷ on-zeros r5 (second in-form) (second passed-rows) i ∷ [])
+    ∙ (λ i. (let step = head-eq-of-cons-eq steps i in record { reply = accepted (step .0); ledger = put compartmentSize 0 (step .1) emptyLedger })
+    ∷ (let step = second steps i in record { reply = accepted (step .0); ledger = put compartmentSize 0 (step .1) emptyLedger }) ∷ [])
+    ∙ (λ i. record { reply = accepted r1Answer; ledger = put compartmentSize 0 (r1Row ++ replicate (compartmentSize - rowSize) 0) emptyLedger }
+    ∷ record { reply = accepted r5Answer; ledger = kept i } ∷ [])
+  where
+    kept : put compartmentSize 0 zeros emptyLedger ≡ emptyLedger
+    kept = ap (λ (c : List ℕ). put compartmentSize 0 c emptyLedger) (sym zeros-part) ∙ put-own compartmentSize 0 emptyLedger
+
+-- what the envelope of a file of either body comes to: no call; one call, of an empty record
+module _ (room : ℕ) (one : answerSize ≤ room) where
+  opened : map (λ body. openedReading (workedFile body) room (reportOf (workedFile body))) (crlf ∷ (crlf ++ crlf) ∷ [])
+      ≡ accepted [] ∷ accepted (called workedSender [] ∷ []) ∷ []
+  unfolding workedFile envelopeOf headOf tailOf bodyStage bodyAt linesAt recordsOf recordsFrom reportCalls textEnd partEnd partThen runOf begins same realDate
+      realDay daysIn realMinute digitsExactly all
+  opened = rw (le-ltb room 0 (omega arith), le-ltb room 16 one) refl
+
+-- the call of the empty record: it fails at place 0, and is answered whatever the ledger holds
+blank-called : calledAlone [] ≡ record { reply = accepted blankAnswer; ledger = emptyLedger }
+unfolding blankAnswer nameUpTo recordForm all lowBytes checkedOf senderCheck senderTests isWhole semicolonsFrom added addedFrom holds answerOf codes codeAt
+    statusAt trailingZeros answerBytes
+blank-called =
+    let call : Call = called workedSender [] in
+    let free : refusalOf workedReporters workedCurrencies call (soundLedger emptyLedger) ≡ 0
+    = sym (accepted-call workedReporters workedCurrencies call (soundLedger emptyLedger) worked-reporters worked-currencies empty-sound refl refl) in
+    single-stranger (rules workedReporters workedCurrencies) call emptyLedger (refusal-is workedReporters workedCurrencies call emptyLedger (sym free)) (omega arith)
+
+-- The file call: a body of one CR LF has no record; one of two holds one, answered 9001. Nothing is booked, and the rest of the buffer stays.
+pub worked-bodies : (a : List ℕ) → answerSize ≤ length a
+    → map (λ body. fileOf workedReporters workedCurrencies (workedFile body) emptyLedger a) (crlf ∷ (crlf ++ crlf) ∷ [])
+    ≡ fileOutcome (accepted 0) emptyLedger a ∷ fileOutcome (accepted 1) emptyLedger (blankAnswer ++ drop answerSize a) ∷ []
+unfolding workedFile fileOf carriedOut answersIn
+worked-bodies a one =
+    let both = opened (length a) one in
+    (λ i. carriedOut workedReporters workedCurrencies ((read crlf (leb-true _ _ refl) ∙ head-eq-of-cons-eq both) i) emptyLedger a
+    ∷ carriedOut workedReporters workedCurrencies ((read (crlf ++ crlf) (leb-true _ _ refl) ∙ second both) i) emptyLedger a ∷ [])
+    ∙ (λ i. fileOutcome (accepted 0) emptyLedger a
+    ∷ fileOutcome (accepted 1) (blank-called i .ledger) (answersIn (blank-called i .reply ∷ []) ++ drop answerSize a) ∷ [])
+    ∙ rw append-nil refl
+  where
+    read : (body : List ℕ) → length (workedFile body) ≤ fileLimit
+        → readingOf workedReporters workedCurrencies (workedFile body) (length a) (soundLedger emptyLedger)
+        ≡ openedReading (workedFile body) (length a) (reportOf (workedFile body))
+    read body short =
+        reading-on workedReporters workedCurrencies (workedFile body) (soundLedger emptyLedger) (length a)
+        (sym (lent-none workedReporters workedCurrencies (workedFile body) (soundLedger emptyLedger) short worked-reporters worked-currencies empty-sound))
