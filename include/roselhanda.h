@@ -1,8 +1,16 @@
-/* The checks and the ledger of document 01 for other programs.
+/* The checks and the ledger of document 01 for C and C++, on x86-64 Linux.
  *
- * Link with target/staticlib/libcapi.a (make lib). Every function takes any bytes, keeps no state,
- * allocates nothing and always returns; each is proved to give exactly what its definition says
- * (crates/capi/specs/Exported.antt). Buffers that are lent for writing may not overlap others.
+ * Link with target/staticlib/libcapi.a (make lib).
+ *
+ * Every function takes any bytes, keeps no state, allocates nothing and always returns. It may be
+ * called from any thread on buffers of its own; what is only read may be shared.
+ *
+ * One convention: a function returns 0 where the call is carried out, else the number of its
+ * refusal, and a refused call writes nothing. Counts and lengths are told in lent words, the last
+ * arguments, which may not be null. Every other pointer comes with its length, and may be null
+ * where that is 0. What is lent for writing may not overlap anything else that is lent.
+ *
+ * What each function returns and leaves is proved; crates/capi/specs/Exported.antt defines it.
  */
 #ifndef ROSELHANDA_H
 #define ROSELHANDA_H
@@ -13,20 +21,54 @@
 extern "C" {
 #endif
 
-/* Bytes of a ledger, and of an answer. */
-#define ROSELHANDA_LEDGER 32768
-#define ROSELHANDA_ANSWER 16
+/* Bytes of a ledger, bytes of an answer, most records of a file. */
+#define ROSELHANDA_LEDGER_SIZE 32768
+#define ROSELHANDA_ANSWER_SIZE 16
+#define ROSELHANDA_MOST_RECORDS 1024
 
-/* What roselhanda_file adds to the number of a refusal. */
-#define ROSELHANDA_REFUSED 65536
+/* The refusals. */
+#define ROSELHANDA_REFUSED_FILE_LENGTH 1   /* the file has more than 32,768 bytes */
+#define ROSELHANDA_REFUSED_REPORTERS 2     /* reporters not as said below */
+#define ROSELHANDA_REFUSED_CURRENCIES 3    /* currencies not as said below */
+#define ROSELHANDA_REFUSED_LEDGER 4        /* a ledger of another size, or not sound */
+#define ROSELHANDA_REFUSED_HEAD 5          /* the file's head is malformed */
+#define ROSELHANDA_REFUSED_DATE_OR_TIME 6  /* no such date in 2000 to 2099, or no such time */
+#define ROSELHANDA_REFUSED_RECEIVER 7      /* the file is addressed to another receiver */
+#define ROSELHANDA_REFUSED_BODY 8          /* the file's body is malformed */
+#define ROSELHANDA_REFUSED_TAIL 9          /* the file's tail is malformed */
+#define ROSELHANDA_REFUSED_CONTROL_WORD 10 /* head and tail have different control words */
+#define ROSELHANDA_REFUSED_RECORD_COUNT 11 /* the file has more than 1,024 records */
+#define ROSELHANDA_REFUSED_ANSWER_ROOM 12  /* no room for all answers */
+#define ROSELHANDA_REFUSED_SENDER 13       /* the sender is not 1 to 8 capitals or digits */
+#define ROSELHANDA_REFUSED_RECORD 14       /* a record over 32,768 bytes, or with CR, LF or ' */
 
-/* Judges one record for its sender and books it if no check fails.
- * Returns 0 and writes the answer's sixteen bytes to the start of answer: 0-7 the set of failed
- * checks (bit k for place k), 8-9 the first code, 10 the reporter's row (255 for none), 11 what
- * became of the record (0 booked), 12-13 the new row (65535 for none), 14-15 the record's length;
- * integers little-endian.
- * Or returns the number of the refusal, and writes nothing: 2 reporters, 3 currencies, 4 ledger,
- * 13 sender, 14 record, 12 an answer buffer under sixteen bytes, in that order. */
+/* What became of a record: byte 11 of its answer. */
+#define ROSELHANDA_BOOKED 0
+#define ROSELHANDA_SENDER_FAILED 1  /* at places 0 to 6 */
+#define ROSELHANDA_CONTENT_FAILED 2 /* at places 7 to 60 */
+#define ROSELHANDA_BOOKING_FAILED 3 /* at places 61 to 63 */
+
+/* No reporter, no row: byte 10 and bytes 12-13 of an answer. */
+#define ROSELHANDA_NO_REPORTER 255
+#define ROSELHANDA_NO_ROW 65535
+
+/* What the functions are lent; integers are little-endian:
+ *   reporters   0 to 16 rows of 32 bytes: 0-4 bank code and 5-15 SWIFT address, neither of them in
+ *               another row; 16-23 mailbox, then spaces; 24-31 zero
+ *   currencies  0 to 512 ascending codes of three capitals, without XXX, XXK, XXO and XXZ
+ *   ledger      16 compartments of 64 rows of 32 bytes, compartment r for row r of the reporters;
+ *               all zero at first, then as the functions leave it. A row: 0 state (0 free, 1 live,
+ *               2 cancelled, 3 a cancellation); 1 length of the number; 2-17 number; 18-25 quantity
+ *               in ten-thousandths; 26-27 partner row; 28 B or S; 29-31 zero
+ *   sender      the mailbox that a record came from
+ *   record      39 fields with semicolons between them
+ *   answer      16 bytes: 0-7 the set of failed checks, bit k for place k; 8-9 the code at the
+ *               lowest failed place, 0 for none; 10 the reporter's row; 11 what became of the
+ *               record; 12-13 its new row in the compartment; 14-15 its length */
+
+/* Judges one record of a sender and books it if no check fails.
+ * Writes the answer to the start of answer, and the booking to ledger.
+ * Refused by 2, 3, 4, 13, 14, 12, in this order. */
 uint64_t roselhanda_record(const uint8_t *reporters, uint64_t reporters_length,
                            const uint8_t *currencies, uint64_t currencies_length,
                            uint8_t *ledger, uint64_t ledger_length,
@@ -34,17 +76,20 @@ uint64_t roselhanda_record(const uint8_t *reporters, uint64_t reporters_length,
                            const uint8_t *record, uint64_t record_length,
                            uint8_t *answer, uint64_t answer_length);
 
-/* Judges and books the records of a report file, in order.
- * Returns their count, and writes sixteen bytes for each from the start of answers; the rest is
- * left. Or returns 65,536 and the number of the refusal, 1 to 12, and writes nothing. */
+/* Judges and books the records of a report file in order, as single calls by its sender would.
+ * Writes an answer for each from the start of answers, the bookings to ledger, and their count to
+ * *records.
+ * Refused by 1 to 12, in this order. */
 uint64_t roselhanda_file(const uint8_t *file, uint64_t file_length,
                          const uint8_t *reporters, uint64_t reporters_length,
                          const uint8_t *currencies, uint64_t currencies_length,
                          uint8_t *ledger, uint64_t ledger_length,
-                         uint8_t *answers, uint64_t answers_length);
+                         uint8_t *answers, uint64_t answers_length,
+                         uint64_t *records);
 
-/* Where field n (1 to 39) of a record starts; its length is written to *length. Both are 0 for
- * another number, and for a record without 38 semicolons. */
+/* Returns where field n, 1 to 39, of a record starts.
+ * Writes its length to *length; both are 0 for another n, or for a record without 38 semicolons.
+ * Never refused. */
 uint64_t roselhanda_field(const uint8_t *record, uint64_t record_length,
                           uint64_t n, uint64_t *length);
 

@@ -1,18 +1,73 @@
-/* Judges document 01's record R1 on an empty ledger: its reply, code, row and status, and field 20. */
+/* Document 01's record R1 by a call of its own, R1 to R5 as a file, a refused call, and empty arguments. */
+#include <inttypes.h>
 #include <stdio.h>
 #include <string.h>
 #include "roselhanda.h"
 
-static const uint8_t reporters[33] = "98001AAAAATW1XXXMBONE   \0\0\0\0\0\0\0\0";
-static const char record[] = "B;98001;I;4711;;;B;20130903;101500;;;;;WBAH;J;;;N;S;AT0000831706;XXX;1500;1;EUR;54,7;;;K;;;;;;;;;;N;A1";
-static uint8_t ledger[ROSELHANDA_LEDGER], answer[ROSELHANDA_ANSWER];
+/* One of the five records: its bank, the number that it cancels, own account or client, its number. */
+#define RECORD(bank, cancels, account, number) \
+    "B;" bank ";I;4711;;;B;20130903;101500;;;;;WBAH;J;" cancels ";;N;S;AT0000831706;XXX;1500;1;EUR;54,7;;;" \
+    account ";;;;;;;;;;N;" number
+
+static const char r1[] = RECORD("98001", "", "K", "A1");
+static const char file[] =
+    "UNB+UNOA:1+MBONE+ATBWA+20130903:1015+W1++BWAMS'UNH+BWA+BWA:0'\r\n"
+    RECORD("98001", "", "K", "A1") "\r\n"
+    RECORD("98003", "", "K", "A2") "\r\n"
+    RECORD("98001", "A1", "K", "A3") "\r\n"
+    RECORD("98001", "A1", "K", "A4") "\r\n"
+    RECORD("98001", "", "E", "A5") "\r\n"
+    "'UNT+3+BWA'UNZ+1+W1'";
+static const char reporters[] =
+    "98001AAAAATW1XXXMBONE   \0\0\0\0\0\0\0\0"
+    "98002BBBBATW1XXXMBONE   \0\0\0\0\0\0\0\0"
+    "98003CCCCATW1XXXMBTWO   \0\0\0\0\0\0\0\0";
+static const char currencies[] = "CHFEURUSD";
+
+/* A text, without the zero behind it, as the two arguments that lend it. */
+#define LENT(text) (const uint8_t *)(text), sizeof(text) - 1
+
+static uint8_t ledger[ROSELHANDA_LEDGER_SIZE], old_ledger[sizeof ledger];
+static uint8_t answers[5 * ROSELHANDA_ANSWER_SIZE], old_answers[sizeof answers];
+
+static void show(const char *name, const uint8_t *answer) {
+    printf("%s code %04d status %d", name, answer[8] + 256 * answer[9], answer[11]);
+    if (answer[11] == ROSELHANDA_BOOKED)
+        printf(", booked in row %d of compartment %d", answer[12] + 256 * answer[13], answer[10]);
+    printf("\n");
+}
 
 int main(void) {
-    const uint8_t *r1 = (const uint8_t *)record;
-    uint64_t length, reply = roselhanda_record(reporters, 32, (const uint8_t *)"CHFEURUSD", 9, ledger, sizeof ledger,
-                                               (const uint8_t *)"MBONE", 5, r1, strlen(record), answer, sizeof answer);
-    uint64_t start = roselhanda_field(r1, strlen(record), 20, &length);
-    printf("reply %llu code %04d row %d status %d\n", (unsigned long long)reply, answer[8] + 256 * answer[9], answer[10], answer[11]);
-    printf("field 20 %.*s, booked number %.*s\n", (int)length, record + start, ledger[1], (const char *)ledger + 2);
+    static const char *names[] = {"R1", "R2", "R3", "R4", "R5"};
+    uint64_t reply, start, length, records, i;
+
+    reply = roselhanda_record(LENT(reporters), LENT(currencies), ledger, sizeof ledger, LENT("MBONE"), LENT(r1),
+                              answers, sizeof answers);
+    printf("one record: reply %" PRIu64 "\n", reply);
+    show("R1", answers);
+    start = roselhanda_field(LENT(r1), 20, &length);
+    printf("field 20 is %.*s, the booked number %.*s\n", (int)length, r1 + start, ledger[1], (char *)ledger + 2);
+
+    memset(ledger, 0, sizeof ledger);
+    reply = roselhanda_file(LENT(file), LENT(reporters), LENT(currencies), ledger, sizeof ledger,
+                            answers, sizeof answers, &records);
+    printf("a file: reply %" PRIu64 ", records %" PRIu64 "\n", reply, records);
+    for (i = 0; i < records; i++)
+        show(names[i], answers + i * ROSELHANDA_ANSWER_SIZE);
+
+    /* A byte too little for five answers: nothing is written. */
+    memcpy(old_ledger, ledger, sizeof ledger);
+    memcpy(old_answers, answers, sizeof answers);
+    records = 99;
+    reply = roselhanda_file(LENT(file), LENT(reporters), LENT(currencies), ledger, sizeof ledger,
+                            answers, sizeof answers - 1, &records);
+    printf("too little room: reply %" PRIu64 ", records %" PRIu64 ", ledger %s, answers %s\n", reply, records,
+           memcmp(ledger, old_ledger, sizeof ledger) ? "changed" : "kept",
+           memcmp(answers, old_answers, sizeof answers) ? "changed" : "kept");
+
+    /* No reporters, no currencies, a record of no bytes: null pointers. */
+    reply = roselhanda_record(NULL, 0, NULL, 0, ledger, sizeof ledger, LENT("MBONE"), NULL, 0, answers, sizeof answers);
+    printf("an empty record: reply %" PRIu64 "\n", reply);
+    show("it has", answers);
     return 0;
 }
