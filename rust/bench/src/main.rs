@@ -16,7 +16,7 @@ use std::process::ExitCode;
 use std::time::{Duration, Instant};
 
 use roselhanda::raw;
-use rows::{Inputs, ANSWER_SIZE};
+use rows::{Inputs, Outcome, ANSWER_SIZE};
 
 const ROUNDS: usize = 31;
 /// Time of each side in a round.
@@ -52,8 +52,8 @@ impl Desk {
         black_box(&mut self.ledger).copy_from_slice(&self.inputs.ledger);
     }
 
-    /// The call of a side; both give the archive's reply.
-    fn call(&mut self, side: Side) -> u64 {
+    /// The call of a side.
+    fn call(&mut self, side: Side) -> Outcome {
         let Inputs {
             reporters,
             currencies,
@@ -64,33 +64,42 @@ impl Desk {
         } = &self.inputs;
         let (ledger, answers) = (&mut self.ledger, &mut self.answers);
         match (side, is_file) {
-            (Side::Proved, true) => raw::file(text, reporters, currencies, ledger, answers),
+            (Side::Proved, true) => {
+                let mut count = 0;
+                match raw::file(text, reporters, currencies, ledger, answers, &mut count) {
+                    0 => Ok(count),
+                    number => Err(number),
+                }
+            }
             (Side::Proved, false) => {
-                raw::record(reporters, currencies, ledger, sender, text, answers)
+                match raw::record(reporters, currencies, ledger, sender, text, answers) {
+                    0 => Ok(1),
+                    number => Err(number),
+                }
             }
             (Side::Twin, true) => {
-                match twin::judge_file(text, reporters, currencies, ledger, answers) {
-                    Ok(count) => count as u64,
-                    Err(refusal) => raw::FILE_REFUSED + refusal as u64,
+                match twin::book_file(text, reporters, currencies, ledger, answers) {
+                    Ok(count) => Ok(count as u64),
+                    Err(refusal) => Err(refusal.number()),
                 }
             }
             (Side::Twin, false) => {
-                match twin::judge_record(reporters, currencies, ledger, sender, text, answers) {
-                    Ok(()) => 0,
-                    Err(refusal) => refusal as u64,
+                match twin::book_record(reporters, currencies, ledger, sender, text, answers) {
+                    Ok(()) => Ok(1),
+                    Err(refusal) => Err(refusal.number()),
                 }
             }
-            (Side::None, _) => 0,
+            (Side::None, _) => Ok(0),
         }
     }
 
-    /// Both sides give the same reply, answers and ledger, and book what the row is made for.
+    /// Both sides come to the same, answers and ledger too, and book what the row is made for.
     fn agrees(&mut self) -> bool {
         let mut outcome = |side| {
             self.restore();
             self.answers.fill(0xa5);
-            let reply = self.call(side);
-            (reply, self.ledger.clone(), self.answers.clone())
+            let outcome = self.call(side);
+            (outcome, self.ledger.clone(), self.answers.clone())
         };
         let proved = outcome(Side::Proved);
         let same = proved == outcome(Side::Twin);
@@ -98,7 +107,7 @@ impl Desk {
             .2
             .chunks(ANSWER_SIZE)
             .filter(|answer| answer[11] == 0);
-        same && proved.0 == self.inputs.reply && booked.count() == self.inputs.booked
+        same && proved.0 == self.inputs.due && booked.count() == self.inputs.booked
     }
 
     /// Nanoseconds of one call, over a number of calls; the ledger is restored outside of them.
@@ -107,7 +116,7 @@ impl Desk {
         for _ in 0..calls {
             self.restore();
             let start = Instant::now();
-            black_box(self.call(side));
+            let _ = black_box(self.call(side));
             spent += start.elapsed();
         }
         spent.as_nanos() as f64 / f64::from(calls)
@@ -216,7 +225,7 @@ fn count(side: &str, row: &str, reps: &str) -> Option<()> {
     let mut desk = Desk::new(row);
     for _ in 0..reps.parse().ok()? {
         desk.restore();
-        black_box(desk.call(side));
+        let _ = black_box(desk.call(side));
     }
     Some(())
 }

@@ -1,7 +1,5 @@
 //! The inputs of the benchmark.
 
-use roselhanda::raw::FILE_REFUSED;
-
 pub const ANSWER_SIZE: usize = 16;
 const ROWS: usize = 64;
 const ROW_SIZE: usize = 32;
@@ -117,6 +115,9 @@ pub fn all() -> impl Iterator<Item = &'static Row> {
     USUAL.iter().chain(&WORST)
 }
 
+/// What a call comes to: its count of records, 1 for a single call, or the number of its refusal.
+pub type Outcome = Result<u64, u64>;
+
 /// What a row's call is lent.
 pub struct Inputs {
     pub reporters: Vec<u8>,
@@ -128,24 +129,29 @@ pub struct Inputs {
     pub is_file: bool,
     /// Answers that there is room for.
     pub room: usize,
-    /// What the call has to return.
-    pub reply: u64,
+    /// What the call has to come to.
+    pub due: Outcome,
     /// Records that are to be booked.
     pub booked: usize,
 }
 
 impl Row {
     pub fn inputs(&self) -> Inputs {
-        let record = |at| valid_record(at, &self.numbers.new(at));
+        let record = |at| valid_record(at, &self.numbers.of_record(at));
         let valid = |count| file((0..count).map(record));
-        let (text, room, reply) = match self.call {
-            Call::Single => (record(0).into_bytes(), 1, 0),
-            Call::File(count) => (valid(count), count, count as u64),
-            Call::ShortFile(count) => (file((0..count).map(short_record)), count, count as u64),
-            Call::SpacedFile(count) => (file((0..count).map(spaced_record)), count, count as u64),
-            Call::BlankFile(count) => (file((0..count).map(blank_record)), count, count as u64),
-            Call::Opened(count) => (valid(count), 0, FILE_REFUSED + 12),
-            Call::Unopened(count) => (without_head(valid(count)), 0, FILE_REFUSED + 5),
+        let (text, room) = match self.call {
+            Call::Single => (record(0).into_bytes(), 1),
+            Call::File(count) => (valid(count), count),
+            Call::ShortFile(count) => (file((0..count).map(short_record)), count),
+            Call::SpacedFile(count) => (file((0..count).map(spaced_record)), count),
+            Call::BlankFile(count) => (file((0..count).map(blank_record)), count),
+            Call::Opened(count) => (valid(count), 0),
+            Call::Unopened(count) => (without_head(valid(count)), 0),
+        };
+        let due = match self.call {
+            Call::Opened(_) => Err(12),
+            Call::Unopened(_) => Err(5),
+            _ => Ok(room as u64),
         };
         let booked = match (self.call, self.fill) {
             (Call::ShortFile(_) | Call::SpacedFile(_) | Call::BlankFile(_), _)
@@ -167,7 +173,7 @@ impl Row {
             text,
             is_file: !matches!(self.call, Call::Single),
             room,
-            reply,
+            due,
             booked,
         }
     }
@@ -175,7 +181,7 @@ impl Row {
 
 impl Numbers {
     /// The number of a row of the ledger.
-    fn old(self, at: usize) -> String {
+    fn of_row(self, at: usize) -> String {
         match self {
             Numbers::Usual => format!("OLD{at:05}"),
             Numbers::OneSlot => format!("OLD{at:05}").repeat(2),
@@ -185,7 +191,7 @@ impl Numbers {
     }
 
     /// The number of a record.
-    fn new(self, at: usize) -> String {
+    fn of_record(self, at: usize) -> String {
         match self {
             Numbers::Usual => format!("NEW{at}"),
             Numbers::OneSlot => format!("NEW{at:05}").repeat(2),
@@ -235,7 +241,7 @@ fn short_record(at: usize) -> String {
 
 /// As long as a valid record.
 fn spaced_record(at: usize) -> String {
-    " ".repeat(valid_record(at, &Numbers::Usual.new(at)).len())
+    " ".repeat(valid_record(at, &Numbers::Usual.of_record(at)).len())
 }
 
 /// Blank but for its kind and its bank.
@@ -270,7 +276,7 @@ fn ledger(filled: usize, numbers: Numbers) -> Vec<u8> {
     let mut ledger = vec![0; LEDGER_SIZE];
     for compartment in ledger.chunks_mut(ROWS * ROW_SIZE) {
         for (at, row) in compartment.chunks_mut(ROW_SIZE).take(filled).enumerate() {
-            let number = numbers.old(at);
+            let number = numbers.of_row(at);
             let (state, partner) = match at % 4 {
                 2 => (2, at as u16 + 1),
                 3 => (3, at as u16 - 1),

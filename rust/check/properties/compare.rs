@@ -24,15 +24,29 @@ pub struct FileCall<'a> {
     pub room: usize,
 }
 
+/// What a call came to: its count of records, 1 for a single call, or the number of its refusal.
+pub type Outcome = Result<u64, u64>;
+
 /// What the proved side left behind.
-#[derive(Default)]
 pub struct Left {
-    pub reply: u64,
+    pub outcome: Outcome,
     pub ledger: Vec<u8>,
     pub answers: Vec<u8>,
 }
 
+impl Default for Left {
+    fn default() -> Self {
+        Left {
+            outcome: Ok(0),
+            ledger: Vec::new(),
+            answers: Vec::new(),
+        }
+    }
+}
+
 const GUARD: usize = 48;
+/// What stands in a lent word, and on both sides of it, before a call.
+const WORD: u64 = 0x0b30_557a_9fc4_e90e;
 
 /// The byte that stands at a place of a buffer before a call.
 fn pattern(at: usize) -> u8 {
@@ -103,7 +117,7 @@ impl Sides {
         let [proved_ledger, twin_ledger] = &mut self.ledgers;
         let [proved_answer, twin_answer] = &mut self.answers;
         let [reporters, currencies, sender, record] = &self.inputs;
-        let proved = raw::record(
+        let reply = raw::record(
             reporters.bytes(),
             currencies.bytes(),
             proved_ledger.bytes_mut(),
@@ -111,7 +125,7 @@ impl Sides {
             record.bytes(),
             proved_answer.bytes_mut(),
         );
-        let twin = twin::judge_record(
+        let twin = twin::book_record(
             call.reporters,
             call.currencies,
             twin_ledger.bytes_mut(),
@@ -119,9 +133,9 @@ impl Sides {
             call.record,
             twin_answer.bytes_mut(),
         );
-        let twin = twin.map_or_else(|refusal| refusal as u64, |()| 0);
-        let written = (proved == 0).then_some(ANSWER_SIZE);
-        self.compare(inputs, call.ledger, proved, twin, written)
+        let proved = if reply == 0 { Ok(1) } else { Err(reply) };
+        let twin = twin.map(|()| 1).map_err(twin::Refusal::number);
+        self.compare(inputs, call.ledger, proved, twin)
     }
 
     /// Makes the call of both sides; the proved side's outcome is left in `left`.
@@ -131,52 +145,61 @@ impl Sides {
         let [proved_ledger, twin_ledger] = &mut self.ledgers;
         let [proved_answers, twin_answers] = &mut self.answers;
         let [reporters, currencies, file, _] = &self.inputs;
-        let proved = raw::file(
+        let mut words = [WORD; 3];
+        let reply = raw::file(
             file.bytes(),
             reporters.bytes(),
             currencies.bytes(),
             proved_ledger.bytes_mut(),
             proved_answers.bytes_mut(),
+            &mut words[1],
         );
-        let twin = twin::judge_file(
+        let twin = twin::book_file(
             call.file,
             call.reporters,
             call.currencies,
             twin_ledger.bytes_mut(),
             twin_answers.bytes_mut(),
         );
-        let twin = twin.map_or_else(
-            |refusal| raw::FILE_REFUSED + refusal as u64,
-            |count| count as u64,
-        );
-        let written = (proved < raw::FILE_REFUSED).then_some(proved as usize * ANSWER_SIZE);
-        self.compare(inputs, call.ledger, proved, twin, written)
+        let [before, records, after] = words;
+        let proved = if reply == 0 { Ok(records) } else { Err(reply) };
+        let twin = twin
+            .map(|count| count as u64)
+            .map_err(twin::Refusal::number);
+        self.compare(inputs, call.ledger, proved, twin)?;
+        if (before, after) != (WORD, WORD) {
+            return Err("words beside the lent one were changed".to_string());
+        }
+        if reply != 0 && records != WORD {
+            return Err("a refused call wrote its lent word".to_string());
+        }
+        Ok(())
     }
 
-    /// Compares what both sides did. `written` is the part of the answer buffer that an accepted
-    /// call has written, none for a refused one.
+    /// Compares what both sides did.
     fn compare(
         &mut self,
         inputs: [&[u8]; 4],
         ledger: &[u8],
-        proved: u64,
-        twin: u64,
-        written: Option<usize>,
+        proved: Outcome,
+        twin: Outcome,
     ) -> Result<(), String> {
         let [proved_ledger, twin_ledger] = &self.ledgers;
         let [proved_answers, twin_answers] = &self.answers;
         let answers = proved_answers.bytes();
+        // A refused call has written nothing.
+        let written = proved.map_or(0, |count| ANSWER_SIZE.saturating_mul(count as usize));
+        let kept = written.min(answers.len());
 
-        self.left.reply = proved;
+        self.left.outcome = proved;
         self.left.ledger.clear();
         self.left.ledger.extend_from_slice(proved_ledger.bytes());
         self.left.answers.clear();
-        let kept = written.unwrap_or(0).min(answers.len());
         self.left.answers.extend_from_slice(&answers[..kept]);
 
         let mut wrong = Vec::new();
         if proved != twin {
-            wrong.push(format!("replies {proved} and {twin} (proved, twin)"));
+            wrong.push(format!("outcomes {proved:?} and {twin:?} (proved, twin)"));
         }
         if answers != twin_answers.bytes() {
             wrong.push(format!(
@@ -190,14 +213,14 @@ impl Sides {
             let at = pairs.position(|(one, other)| one != other);
             wrong.push(format!("ledgers differ from byte {at:?} on"));
         }
-        if written.is_none() && proved_ledger.bytes() != ledger {
+        if proved.is_err() && proved_ledger.bytes() != ledger {
             wrong.push("a refused call changed the ledger".to_string());
         }
         let untouched = answers.iter().enumerate().skip(kept);
         if untouched.clone().any(|(at, &byte)| byte != pattern(at)) {
             wrong.push("the rest of the answer buffer was changed".to_string());
         }
-        if written.is_some_and(|end| end > answers.len()) {
+        if written > answers.len() {
             wrong.push("accepted without room for the answers".to_string());
         }
         let lent = self.inputs.iter().chain([proved_ledger, proved_answers]);

@@ -1,9 +1,7 @@
 //! Tables and ledgers: each rule of document 01 broken on purpose, changes that break none, every
 //! byte replaced, and random bytes.
 
-use roselhanda::raw::FILE_REFUSED;
-
-use crate::compare::{FileCall, RecordCall};
+use crate::compare::{FileCall, Outcome, RecordCall};
 use crate::files::Parts;
 use crate::records::{valid, Setting};
 use crate::rng::Rng;
@@ -513,8 +511,8 @@ const HARMLESS: &[(&str, Change)] = &[
     }),
 ];
 
-/// Both calls on what is lent. `due` is the refusal that the damage asks for, 0 for none.
-fn both_calls(check: &mut Check, rng: &mut Rng, lent: &Lent, due: Option<u64>, label: &str) {
+/// Both calls on what is lent, with the outcome that the damage asks for.
+fn both_calls(check: &mut Check, rng: &mut Rng, lent: &Lent, due: Option<Outcome>, label: &str) {
     let bank = lent.world.random_bank(rng);
     let setting = Setting {
         world: &lent.world,
@@ -525,7 +523,7 @@ fn both_calls(check: &mut Check, rng: &mut Rng, lent: &Lent, due: Option<u64>, l
     let mut sender = lent.world.banks[bank].mailbox.as_slice();
     let mut room = 32;
     // Refusals 2 to 4 come first, whatever else is wrong.
-    if due.is_some_and(|due| due > 0) && rng.chance(10) {
+    if due.is_some_and(|due| due.is_err()) && rng.chance(10) {
         (sender, room) = (b"", 3);
     }
     let call = RecordCall {
@@ -545,7 +543,6 @@ fn both_calls(check: &mut Check, rng: &mut Rng, lent: &Lent, due: Option<u64>, l
         ledger: &lent.ledger,
         room,
     };
-    let due = due.map(|due| if due == 0 { 1 } else { FILE_REFUSED + due });
     check.file_expecting(&call, due, label);
 }
 
@@ -553,10 +550,10 @@ fn both_calls(check: &mut Check, rng: &mut Rng, lent: &Lent, due: Option<u64>, l
 pub fn rules(check: &mut Check, rng: &mut Rng, rounds: usize) {
     check.section("tables and ledgers: each rule broken");
     let lists = [
-        (0, HARMLESS),
-        (2, BAD_REPORTERS),
-        (3, BAD_CURRENCIES),
-        (4, BAD_LEDGERS),
+        (Ok(1), HARMLESS),
+        (Err(2), BAD_REPORTERS),
+        (Err(3), BAD_CURRENCIES),
+        (Err(4), BAD_LEDGERS),
     ];
     for _ in 0..rounds {
         for (due, changes) in lists {
@@ -574,11 +571,11 @@ pub fn precedence(check: &mut Check, rng: &mut Rng, cases: usize) {
     check.section("tables and ledgers: several damaged");
     for _ in 0..cases {
         let mut lent = Lent::random(rng);
-        let mut due = 0;
+        let mut due = Ok(1);
         for (number, changes) in [(4, BAD_LEDGERS), (3, BAD_CURRENCIES), (2, BAD_REPORTERS)] {
             if rng.chance(60) {
                 rng.pick(changes).1(rng, &mut lent);
-                due = number;
+                due = Err(number);
             }
         }
         both_calls(check, rng, &lent, Some(due), "several damaged");

@@ -1,6 +1,6 @@
 //! Whole-file calls: valid files, files damaged in every part, and several damages at once.
 
-use roselhanda::raw::{self, FILE_REFUSED};
+use roselhanda::raw;
 use roselhanda::ANSWER_SIZE;
 
 use crate::compare::FileCall;
@@ -100,7 +100,7 @@ impl Parts {
 }
 
 /// A control word of 1 to 14 bytes.
-fn control_word(rng: &mut Rng) -> Vec<u8> {
+pub fn control_word(rng: &mut Rng) -> Vec<u8> {
     let alphabet: Vec<u8> = (b' '..=b'~')
         .filter(|byte| !b"+':?".contains(byte))
         .collect();
@@ -165,7 +165,7 @@ impl Desk {
     }
 }
 
-/// Valid files; each is also made of single calls of the archive.
+/// Valid files; each is also made with a byte too little room, and of single calls of the archive.
 pub fn valid_files(check: &mut Check, rng: &mut Rng, count: usize) {
     check.section("files: valid, and equal to single calls");
     for case in 0..count {
@@ -181,13 +181,16 @@ pub fn valid_files(check: &mut Check, rng: &mut Rng, count: usize) {
         }
         let parts = Parts::random(rng, &desk.world, &lines);
         let file = parts.to_bytes();
-        let room = ANSWER_SIZE * lines.len() + rng.below(40);
-        let call = desk.call(&file, room);
-        let left = check.file_expecting(&call, Some(lines.len() as u64), "valid file");
+        let need = ANSWER_SIZE * lines.len();
+        if need > 0 {
+            check.file_expecting(&desk.call(&file, need - 1), Some(Err(12)), "a byte short");
+        }
+        let call = desk.call(&file, need + rng.below(40));
+        let left = check.file_expecting(&call, Some(Ok(lines.len() as u64)), "valid file");
         let (after, answers) = (left.ledger.clone(), left.answers.clone());
 
         let mut book = desk.ledger.clone();
-        let mut singly = vec![0; ANSWER_SIZE * lines.len()];
+        let mut singly = vec![0; need];
         let mut replies = 0;
         for (record, answer) in lines.iter().zip(singly.chunks_mut(ANSWER_SIZE)) {
             replies |= raw::record(
@@ -245,11 +248,7 @@ pub fn every_byte(check: &mut Check) {
     }
     for byte in 0..=255 {
         let longer = [file.as_slice(), &[byte]].concat();
-        check.file_expecting(
-            &desk.call(&longer, room),
-            Some(FILE_REFUSED + 9),
-            "longer file",
-        );
+        check.file_expecting(&desk.call(&longer, room), Some(Err(9)), "longer file");
     }
 }
 
@@ -388,11 +387,11 @@ pub fn counts_and_lengths(check: &mut Check, rng: &mut Rng, rounds: usize) {
                 0,
             ] {
                 let due = if count > MOST_RECORDS {
-                    FILE_REFUSED + 11
+                    Err(11)
                 } else if room < need {
-                    FILE_REFUSED + 12
+                    Err(12)
                 } else {
-                    count as u64
+                    Ok(count as u64)
                 };
                 check.file_expecting(&desk.call(&file, room), Some(due), "count and room");
             }
@@ -417,11 +416,7 @@ pub fn counts_and_lengths(check: &mut Check, rng: &mut Rng, rounds: usize) {
             let padding = length - file(&record).len();
             record.set(10, rng.text(CAPITALS, padding));
             let file = file(&record);
-            let due = if length > LONGEST_FILE {
-                FILE_REFUSED + 1
-            } else {
-                1
-            };
+            let due = if length > LONGEST_FILE { Err(1) } else { Ok(1) };
             check.file_expecting(&desk.call(&file, 16), Some(due), "length of a file");
         }
     }
@@ -581,6 +576,12 @@ const DAMAGES: &[(u64, &str, Damage)] = &[
     }),
 ];
 
+/// Damages a file, so that it is refused.
+pub fn damage(rng: &mut Rng, parts: &mut Parts) {
+    let &(_, _, damage) = rng.pick(DAMAGES);
+    damage(rng, parts);
+}
+
 /// Each damage alone, and damages of several parts at once: the lowest number is due.
 pub fn damaged_files(check: &mut Check, rng: &mut Rng, rounds: usize) {
     check.section("files: each part damaged, alone and together");
@@ -644,7 +645,7 @@ pub fn damaged_files(check: &mut Check, rng: &mut Rng, rounds: usize) {
                 ledger: &ledger,
                 room,
             };
-            check.file_expecting(&call, Some(FILE_REFUSED + call_due), label);
+            check.file_expecting(&call, Some(Err(call_due)), label);
         }
     }
 }

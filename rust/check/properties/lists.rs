@@ -1,25 +1,31 @@
-//! Lists of single-record calls on one ledger, and demand 3 over them.
+//! Lists of exported calls on one ledger, single records and files in a random mix, and demand 3
+//! over them.
 
 use roselhanda::raw;
 use roselhanda::ANSWER_SIZE;
 
-use crate::compare::RecordCall;
+use crate::compare::{FileCall, Outcome, RecordCall};
+use crate::files::{control_word, damage, Parts};
 use crate::records::{edit, valid, Setting};
 use crate::rng::Rng;
 use crate::tally::{decoded, Check};
 use crate::values::name;
 use crate::world::{ledger, rows_of, World, BANKS, COMPARTMENT_SIZE, LEDGER_SIZE};
 
+type AnswerBytes = [u8; ANSWER_SIZE];
+
 /// One call of a list; its tables and the ledger are the list's.
 struct Call {
     sender: Vec<u8>,
-    record: Vec<u8>,
+    /// The one of a single call; those of a file, unless it is damaged.
+    records: Vec<Vec<u8>>,
+    /// `None` for a single call.
+    file: Option<Vec<u8>>,
     room: usize,
 }
 
-/// A call by some bank: mostly valid, with numbers from a small stock so that bookings meet.
-fn call(rng: &mut Rng, world: &World, ledger: &[u8]) -> Call {
-    let bank = world.random_bank(rng);
+/// A record of a bank: mostly valid, with numbers from a small stock so that bookings meet.
+fn record(rng: &mut Rng, world: &World, ledger: &[u8], bank: usize) -> Vec<u8> {
     let rows = rows_of(ledger, bank);
     let setting = Setting {
         world,
@@ -36,26 +42,73 @@ fn call(rng: &mut Rng, world: &World, ledger: &[u8]) -> Call {
     if rng.chance(15) {
         edit(rng, &setting, &mut record);
     }
-    let mut call = Call {
-        sender: world.banks[bank].mailbox.clone(),
-        record: record.to_bytes(),
-        room: ANSWER_SIZE,
-    };
+    record.to_bytes()
+}
+
+fn single_call(rng: &mut Rng, world: &World, ledger: &[u8]) -> Call {
+    let bank = world.random_bank(rng);
+    let mut record = record(rng, world, ledger, bank);
+    let mut sender = world.banks[bank].mailbox.clone();
+    let mut room = ANSWER_SIZE + rng.below(20);
     match rng.below(40) {
         // Another member, a stranger, and the three refusals.
-        0 | 1 => call.sender.clone_from(&rng.pick(&world.banks).mailbox),
-        2 => call.sender = name(rng, &[1, 8]),
-        3 => call.sender = rng.pick(&[b"".to_vec(), b"mbone".to_vec()]).clone(),
-        4 => call.record.push(*rng.pick(b"\r\n'")),
-        5 => call.room = rng.below(ANSWER_SIZE),
+        0 | 1 => sender.clone_from(&rng.pick(&world.banks).mailbox),
+        2 => sender = name(rng, &[1, 8]),
+        3 => sender = rng.pick(&[b"".to_vec(), b"mbone".to_vec()]).clone(),
+        4 => record.push(*rng.pick(b"\r\n'")),
+        5 | 6 => room = rng.below(ANSWER_SIZE),
         _ => {}
     }
-    call
+    Call {
+        sender,
+        records: vec![record],
+        file: None,
+        room,
+    }
+}
+
+/// A file of a mailbox, with records of its own banks and of others; some are damaged, some get
+/// too little room.
+fn file_call(rng: &mut Rng, world: &World, ledger: &[u8]) -> Call {
+    let sender = rng.pick(&world.banks).mailbox.clone();
+    let own: Vec<usize> = (0..world.banks.len())
+        .filter(|&bank| world.banks[bank].mailbox == sender)
+        .collect();
+    let mut records = Vec::new();
+    for _ in 0..rng.below(8) {
+        let mut bank = *rng.pick(&own);
+        if rng.chance(15) {
+            bank = world.random_bank(rng);
+        }
+        let record = record(rng, world, ledger, bank);
+        records.push(record);
+    }
+    let mut parts = Parts::new(&sender, &control_word(rng), &records);
+    let mut room = ANSWER_SIZE * records.len() + rng.below(20);
+    match rng.below(10) {
+        0 => damage(rng, &mut parts),
+        1 if room > 0 => room = rng.below(room),
+        _ => {}
+    }
+    Call {
+        file: Some(parts.to_bytes()),
+        sender,
+        records,
+        room,
+    }
+}
+
+fn call(rng: &mut Rng, world: &World, ledger: &[u8]) -> Call {
+    if rng.chance(30) {
+        file_call(rng, world, ledger)
+    } else {
+        single_call(rng, world, ledger)
+    }
 }
 
 /// Lists over all banks, both sides compared after each call.
 pub fn lists(check: &mut Check, rng: &mut Rng, count: usize) {
-    check.section("lists of calls");
+    check.section("lists of calls and files");
     for list in 0..count {
         let banks = if list % 4 == 0 { rng.within(1..=4) } else { 16 };
         let world = World::random(rng, banks);
@@ -65,58 +118,129 @@ pub fn lists(check: &mut Check, rng: &mut Rng, count: usize) {
         let length = if list % 4 == 0 { 200 } else { 100 };
         for _ in 0..length {
             let call = call(rng, &world, &book);
-            let left = check.record(&RecordCall {
-                reporters: &world.reporters,
-                currencies: &world.currencies,
-                ledger: &book,
-                sender: &call.sender,
-                record: &call.record,
-                room: call.room,
-            });
+            let left = match &call.file {
+                None => check.record(&RecordCall {
+                    reporters: &world.reporters,
+                    currencies: &world.currencies,
+                    ledger: &book,
+                    sender: &call.sender,
+                    record: &call.records[0],
+                    room: call.room,
+                }),
+                Some(file) => check.file(&FileCall {
+                    file,
+                    reporters: &world.reporters,
+                    currencies: &world.currencies,
+                    ledger: &book,
+                    room: call.room,
+                }),
+            };
             book.clone_from(&left.ledger);
         }
     }
 }
 
-/// A call of the archive alone: its answer, unless it is refused.
-fn proved(world: &World, ledger: &mut [u8], call: &Call) -> Option<[u8; ANSWER_SIZE]> {
-    let mut answer = [0xa5; ANSWER_SIZE];
-    let room = call.room.min(ANSWER_SIZE);
-    let reply = raw::record(
-        &world.reporters,
-        &world.currencies,
-        ledger,
-        &call.sender,
-        &call.record,
-        &mut answer[..room],
-    );
-    (reply == 0).then_some(answer)
+/// A call of the archive alone: what it came to, and the answers that it wrote.
+fn proved(world: &World, ledger: &mut [u8], call: &Call) -> (Outcome, Vec<AnswerBytes>) {
+    let mut answers = vec![0xa5; call.room];
+    let mut count = 1;
+    let reply = match &call.file {
+        None => raw::record(
+            &world.reporters,
+            &world.currencies,
+            ledger,
+            &call.sender,
+            &call.records[0],
+            &mut answers,
+        ),
+        Some(file) => raw::file(
+            file,
+            &world.reporters,
+            &world.currencies,
+            ledger,
+            &mut answers,
+            &mut count,
+        ),
+    };
+    if reply != 0 {
+        return (Err(reply), Vec::new());
+    }
+    let (answers, _) = answers.as_chunks();
+    (Ok(count), answers[..count as usize].to_vec())
+}
+
+/// One record of a list that was judged, by its sender, with its answer.
+struct Judged<'a> {
+    sender: &'a [u8],
+    record: &'a [u8],
+    answer: AnswerBytes,
+}
+
+impl Judged<'_> {
+    /// The bank that the record passed the sender check for.
+    fn bank(&self) -> Option<usize> {
+        decoded(&self.answer)?.reporter_row().map(usize::from)
+    }
+
+    /// Whether a single call on this ledger gives the same answer.
+    fn again(&self, world: &World, ledger: &mut [u8]) -> bool {
+        let mut answer = [0xa5; ANSWER_SIZE];
+        let reply = raw::record(
+            &world.reporters,
+            &world.currencies,
+            ledger,
+            self.sender,
+            self.record,
+            &mut answer,
+        );
+        reply == 0 && answer == self.answer
+    }
 }
 
 fn compartment(ledger: &[u8], bank: usize) -> &[u8] {
     &ledger[bank * COMPARTMENT_SIZE..][..COMPARTMENT_SIZE]
 }
 
-/// Demand 3: each bank's answers and compartment are those of a lone run of its own calls, and
-/// the calls taken bank after bank leave the same ledger. One case for each bank of a list, and
-/// one for bank after bank.
+/// Demand 3: each bank's answers and compartment are those of a lone run of its own records, the
+/// records taken bank after bank leave the same ledger, and each call comes to what it comes to
+/// on an empty ledger, never to refusal 4. One case for each bank of a list, and one for each of
+/// the other two.
 pub fn demand_three(check: &mut Check, rng: &mut Rng, count: usize) {
-    check.section("demand 3 over lists of calls");
+    check.section("demand 3 over lists of calls and files");
     for _ in 0..count {
         let any = rng.within(1..=16);
         let banks = *rng.pick(&[16, 16, 16, any]);
         let world = World::random(rng, banks);
         let percent = *rng.pick(&[0, 20, 50]);
         let start = ledger(rng, percent);
-        let length = rng.below(160);
+        let length = rng.below(100);
 
         let mut shared = start.clone();
-        let mut list = Vec::new();
+        let mut calls = Vec::new();
+        let mut outcomes_agree = true;
         for _ in 0..length {
             let call = call(rng, &world, &shared);
-            let answer = proved(&world, &mut shared, &call);
-            list.push((call, answer));
+            let (outcome, answers) = proved(&world, &mut shared, &call);
+            let (on_empty, _) = proved(&world, &mut vec![0; LEDGER_SIZE], &call);
+            outcomes_agree &= outcome == on_empty && outcome != Err(4);
+            calls.push((call, answers));
         }
+        check.case(outcomes_agree, || {
+            format!("what calls of a list of {length} come to depends on the ledger")
+        });
+
+        // What was refused has no answers, and so no step.
+        let judged: Vec<Judged> = calls
+            .iter()
+            .flat_map(|(call, answers)| {
+                let pairs = call.records.iter().zip(answers);
+                pairs.map(|(record, answer)| Judged {
+                    sender: &call.sender,
+                    record,
+                    answer: *answer,
+                })
+            })
+            .collect();
 
         let mut in_turn = start.clone();
         let mut in_turn_agrees = true;
@@ -125,14 +249,9 @@ pub fn demand_three(check: &mut Check, rng: &mut Rng, count: usize) {
             let own = bank * COMPARTMENT_SIZE..(bank + 1) * COMPARTMENT_SIZE;
             lone[own.clone()].copy_from_slice(&start[own.clone()]);
             let mut agrees = true;
-            for (call, answer) in &list {
-                let Some(answer) = answer else { continue };
-                let row = decoded(answer).and_then(|answer| answer.reporter_row);
-                if row != Some(bank as u8) {
-                    continue;
-                }
-                agrees &= proved(&world, &mut lone, call).as_ref() == Some(answer);
-                in_turn_agrees &= proved(&world, &mut in_turn, call).as_ref() == Some(answer);
+            for step in judged.iter().filter(|step| step.bank() == Some(bank)) {
+                agrees &= step.again(&world, &mut lone);
+                in_turn_agrees &= step.again(&world, &mut in_turn);
             }
             agrees &= compartment(&lone, bank) == compartment(&shared, bank);
             lone[own].fill(0);

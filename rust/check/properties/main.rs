@@ -8,6 +8,7 @@ mod compare;
 mod damage;
 mod files;
 mod lists;
+mod nulls;
 mod records;
 mod rng;
 mod singles;
@@ -28,6 +29,7 @@ fn main() -> ExitCode {
     singles::every_byte(&mut check);
     singles::random_records(&mut check, &mut Rng::new(2), 20_000);
     singles::refused_records(&mut check, &mut Rng::new(3), 10_000);
+    singles::rooms(&mut check, &mut Rng::new(16), 100);
     singles::field_views(&mut check, &mut Rng::new(4), 4_000);
     lists::lists(&mut check, &mut Rng::new(5), 400);
     lists::demand_three(&mut check, &mut Rng::new(6), 1_500);
@@ -42,6 +44,7 @@ fn main() -> ExitCode {
     damage::precedence(&mut check, &mut Rng::new(13), 2_000);
     damage::every_byte(&mut check, &mut Rng::new(14));
     damage::random_bytes(&mut check, &mut Rng::new(15), 10_000);
+    nulls::null_pointers(&mut check, &mut Rng::new(17), 20);
 
     let (passed, failed) = check.report();
     println!("{passed} passed, {failed} failed");

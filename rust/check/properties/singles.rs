@@ -56,7 +56,7 @@ pub fn worked_inputs(check: &mut Check) {
         });
         let answer = decoded(&left.answers).expect("worked inputs are answered");
         ledger.clone_from(&left.ledger);
-        let found = (answer.set, answer.reporter_row, answer.booked_row);
+        let found = (answer.set(), answer.reporter_row(), answer.booked_row());
         check.case(found == expected, || {
             format!(
                 "{} gives {found:?}, due {expected:?}",
@@ -84,8 +84,10 @@ pub fn published_isins(check: &mut Check) {
     let world = World::worked();
     let ledger = vec![0; LEDGER_SIZE];
     for line in include_str!("../../../crates/vectors/data/isin.txt").lines() {
-        let (isin, verdict) = line.split_once(' ').expect("an ISIN and its verdict");
-        let is_wrong = u64::from(verdict != "1");
+        // A label may follow.
+        let mut words = line.split_whitespace();
+        let isin = words.next().expect("an ISIN");
+        let is_wrong = u64::from(words.next().expect("its verdict") != "1");
         let mut instrument = Record::parse(R1);
         instrument.set(20, isin);
         let mut underlying = Record::parse(R1);
@@ -152,7 +154,7 @@ pub fn edited_records(check: &mut Check, rng: &mut Rng, chains: usize) {
                 record: &record.to_bytes(),
                 room: 16 + rng.below(20),
             });
-            let set = (left.reply == 0).then(|| set_of(&left.answers));
+            let set = left.outcome.is_ok().then(|| set_of(&left.answers));
             if let (Some(before), Some(set)) = (before, set) {
                 check.beside(before, set);
             }
@@ -181,7 +183,7 @@ pub fn every_byte(check: &mut Check) {
                 record: &record,
                 room: 16,
             });
-            if left.reply == 0 {
+            if left.outcome.is_ok() {
                 let set = set_of(&left.answers);
                 check.beside(0, set);
             }
@@ -231,6 +233,34 @@ pub fn random_records(check: &mut Check, rng: &mut Rng, cases: usize) {
     }
 }
 
+/// Records that are booked where there is room for an answer, and refused by 12 where there is not.
+pub fn rooms(check: &mut Check, rng: &mut Rng, rounds: usize) {
+    check.section("single calls: rooms of 0 to 17 bytes");
+    for _ in 0..rounds {
+        let world = World::random(rng, 16);
+        let ledger = ledger(rng, 0);
+        let bank = world.random_bank(rng);
+        let setting = Setting {
+            world: &world,
+            bank,
+            rows: &[],
+        };
+        let record = valid(rng, &setting).to_bytes();
+        for room in 0..=17 {
+            let call = RecordCall {
+                reporters: &world.reporters,
+                currencies: &world.currencies,
+                ledger: &ledger,
+                sender: &world.banks[bank].mailbox,
+                record: &record,
+                room,
+            };
+            let due = if room < 16 { Err(12) } else { Ok(1) };
+            check.record_expecting(&call, Some(due), "room");
+        }
+    }
+}
+
 /// Refusals 12, 13 and 14, one at a time and together.
 pub fn refused_records(check: &mut Check, rng: &mut Rng, cases: usize) {
     check.section("single calls: senders, records and room refused");
@@ -253,10 +283,10 @@ pub fn refused_records(check: &mut Check, rng: &mut Rng, cases: usize) {
         }
         let mut record = record.to_bytes();
         let mut room = 16 + rng.below(40);
-        let mut due = Some(0);
+        let mut due = Some(Ok(1));
         if rng.chance(30) {
             room = rng.below(16);
-            due = Some(12);
+            due = Some(Err(12));
         }
         if rng.chance(30) {
             let at = rng.below(record.len() + 1);
@@ -266,7 +296,7 @@ pub fn refused_records(check: &mut Check, rng: &mut Rng, cases: usize) {
                 let length = rng.within(LONGEST_RECORD + 1..=LONGEST_RECORD + 3);
                 record.resize(length, *rng.pick(b";A"));
             }
-            due = Some(14);
+            due = Some(Err(14));
         }
         match rng.below(4) {
             0 => {
@@ -280,7 +310,7 @@ pub fn refused_records(check: &mut Check, rng: &mut Rng, cases: usize) {
                     }
                     _ => [sender.as_slice(), b" "].concat(),
                 };
-                due = Some(13);
+                due = Some(Err(13));
             }
             1 => {
                 sender = near(rng, &sender);
@@ -335,7 +365,8 @@ pub fn field_views(check: &mut Check, rng: &mut Rng, cases: usize) {
         };
         let numbers = (0..=41).chain([u64::MAX, 1 << 32 | 5, 1 << 63, 256 + 7, u64::MAX - 38]);
         for n in numbers {
-            let (start, length) = raw::field(&record, n);
+            let mut length = u64::MAX;
+            let start = raw::field(&record, n, &mut length);
             let view = twin::field(&record, n as usize);
             let due = (
                 view.as_ptr() as usize - record.as_ptr() as usize,

@@ -2,10 +2,9 @@
 
 use std::time::Instant;
 
-use roselhanda::raw::FILE_REFUSED;
-use roselhanda::{Answer, ANSWER_SIZE, CODES};
+use roselhanda::{code_of, Answer, ANSWER_SIZE};
 
-use crate::compare::{FileCall, Left, RecordCall, Sides};
+use crate::compare::{FileCall, Left, Outcome, RecordCall, Sides};
 
 /// Cases of one group.
 const GROUP: u64 = 1_000;
@@ -14,9 +13,18 @@ const FEWEST_HITS: u64 = 100;
 /// Failed cases that are shown in full.
 const SHOWN: u64 = 10;
 
+/// The two calls that are counted.
+#[derive(Clone, Copy)]
+enum Kind {
+    Record,
+    File,
+}
+
 /// The refusals that each call can give.
-const RECORD_REFUSALS: [usize; 6] = [2, 3, 4, 12, 13, 14];
-const FILE_REFUSALS: [usize; 12] = [1, 2, 3, 4, 5, 6, 7, 8, 9, 10, 11, 12];
+const REFUSALS: [&[usize]; 2] = [
+    &[2, 3, 4, 12, 13, 14],
+    &[1, 2, 3, 4, 5, 6, 7, 8, 9, 10, 11, 12],
+];
 
 /// How often a place was seen.
 #[derive(Clone, Copy, Default)]
@@ -46,8 +54,8 @@ pub struct Check {
     cases: u64,
     shown: u64,
     places: [PlaceHits; 64],
-    record_refusals: [u64; 15],
-    file_refusals: [u64; 15],
+    /// Of each kind of call, by number.
+    refusals: [[u64; 15]; 2],
 }
 
 /// Whether a place was judged in an answer with this set of failures.
@@ -78,8 +86,7 @@ impl Check {
             cases: 0,
             shown: 0,
             places: [PlaceHits::default(); 64],
-            record_refusals: [0; 15],
-            file_refusals: [0; 15],
+            refusals: [[0; 15]; 2],
         }
     }
 
@@ -99,7 +106,7 @@ impl Check {
         }
         if let Some(started) = self.section.started {
             println!(
-                "{:<44} {:>8} cases {:>6} failed {:>7.2} s",
+                "{:<47} {:>7} cases {:>6} failed {:>7.2} s",
                 self.section.name,
                 self.section.cases,
                 self.section.failed,
@@ -139,29 +146,17 @@ impl Check {
         self.record_expecting(call, None, "")
     }
 
-    /// One case: a single-record call of both sides, with the reply that the case was made for.
+    /// One case: a single-record call of both sides, with the outcome that the case was made for.
     pub fn record_expecting(
         &mut self,
         call: &RecordCall,
-        reply: Option<u64>,
+        due: Option<Outcome>,
         label: &str,
     ) -> &Left {
-        let mut verdict = self.sides.record(call);
-        let left = &self.sides.left;
-        if let (Ok(()), Some(reply)) = (&verdict, reply) {
-            if left.reply != reply {
-                verdict = Err(format!("reply {} where {reply} is due", left.reply));
-            }
-        }
-        if left.reply == 0 {
-            count_answers(&mut self.places, &left.answers);
-        } else if let Some(hits) = self.record_refusals.get_mut(left.reply as usize) {
-            *hits += 1;
-        }
-        let problem = verdict.as_ref().err().cloned().unwrap_or_default();
-        self.case(verdict.is_ok(), || {
+        let verdict = self.sides.record(call);
+        self.made(Kind::Record, verdict, due, || {
             format!(
-                "{label} {problem}\n  reporters {}\n  currencies {}\n  sender {}\n  record {}\n  room {}\n  ledger {}",
+                "{label}\n  reporters {}\n  currencies {}\n  sender {}\n  record {}\n  room {}\n  ledger {}",
                 shown(call.reporters),
                 shown(call.currencies),
                 shown(call.sender),
@@ -169,8 +164,7 @@ impl Check {
                 call.room,
                 shown_ledger(call.ledger),
             )
-        });
-        &self.sides.left
+        })
     }
 
     /// One case: a whole-file call of both sides. Gives what the proved side left.
@@ -178,33 +172,45 @@ impl Check {
         self.file_expecting(call, None, "")
     }
 
-    /// One case: a whole-file call of both sides, with the reply that the case was made for.
-    pub fn file_expecting(&mut self, call: &FileCall, reply: Option<u64>, label: &str) -> &Left {
-        let mut verdict = self.sides.file(call);
-        let left = &self.sides.left;
-        if let (Ok(()), Some(reply)) = (&verdict, reply) {
-            if left.reply != reply {
-                verdict = Err(format!("reply {} where {reply} is due", left.reply));
-            }
-        }
-        match left.reply.checked_sub(FILE_REFUSED) {
-            None => count_answers(&mut self.places, &left.answers),
-            Some(number) => {
-                if let Some(hits) = self.file_refusals.get_mut(number as usize) {
-                    *hits += 1;
-                }
-            }
-        }
-        let problem = verdict.as_ref().err().cloned().unwrap_or_default();
-        self.case(verdict.is_ok(), || {
+    /// One case: a whole-file call of both sides, with the outcome that the case was made for.
+    pub fn file_expecting(&mut self, call: &FileCall, due: Option<Outcome>, label: &str) -> &Left {
+        let verdict = self.sides.file(call);
+        self.made(Kind::File, verdict, due, || {
             format!(
-                "{label} {problem}\n  file {}\n  reporters {}\n  currencies {}\n  room {}\n  ledger {}",
+                "{label}\n  file {}\n  reporters {}\n  currencies {}\n  room {}\n  ledger {}",
                 shown(call.file),
                 shown(call.reporters),
                 shown(call.currencies),
                 call.room,
                 shown_ledger(call.ledger),
             )
+        })
+    }
+
+    /// Counts a call that was made of both sides, and what it hit.
+    fn made(
+        &mut self,
+        kind: Kind,
+        verdict: Result<(), String>,
+        due: Option<Outcome>,
+        describe: impl FnOnce() -> String,
+    ) -> &Left {
+        let outcome = self.sides.left.outcome;
+        let verdict = verdict.and_then(|()| match due {
+            Some(due) if due != outcome => Err(format!("{outcome:?} where {due:?} is due")),
+            _ => Ok(()),
+        });
+        match outcome {
+            Ok(_) => count_answers(&mut self.places, &self.sides.left.answers),
+            Err(number) => {
+                if let Some(hits) = self.refusals[kind as usize].get_mut(number as usize) {
+                    *hits += 1;
+                }
+            }
+        }
+        let problem = verdict.err();
+        self.case(problem.is_none(), || {
+            format!("{} in {}", problem.unwrap_or_default(), describe())
         });
         &self.sides.left
     }
@@ -227,11 +233,11 @@ impl Check {
             self.cases
         );
         println!("\nplace  code    failed      held    beside");
-        for (place, hits) in self.places.iter().enumerate() {
+        for (place, hits) in (0..).zip(&self.places) {
             let ok = hits.failed >= FEWEST_HITS && hits.beside >= FEWEST_HITS;
             println!(
                 "{place:>5}  {:04} {:>9} {:>9} {:>9}{}",
-                CODES[place],
+                code_of(place).expect("a place"),
                 hits.failed,
                 hits.held,
                 hits.beside,
@@ -246,8 +252,9 @@ impl Check {
         println!("\nrefusal    record      file");
         for number in 1..15 {
             let mut ok = true;
-            let mut column = |listed: &[usize], hits: u64| {
-                let can_occur = listed.contains(&number);
+            let mut column = |kind: Kind| {
+                let can_occur = REFUSALS[kind as usize].contains(&number);
+                let hits = self.refusals[kind as usize][number];
                 ok &= if can_occur {
                     hits >= FEWEST_HITS
                 } else {
@@ -259,8 +266,8 @@ impl Check {
                     "-".to_string()
                 }
             };
-            let record = column(&RECORD_REFUSALS, self.record_refusals[number]);
-            let file = column(&FILE_REFUSALS, self.file_refusals[number]);
+            let record = column(Kind::Record);
+            let file = column(Kind::File);
             println!(
                 "{number:>7} {record:>9} {file:>9}{}",
                 if ok { "" } else { "  TOO FEW OR NONE DUE" }
@@ -297,7 +304,7 @@ pub fn set_of(answer: &[u8]) -> u64 {
 
 /// An answer record in Rust's types.
 pub fn decoded(answer: &[u8]) -> Option<Answer> {
-    Answer::from_bytes(answer.first_chunk()?)
+    Answer::from_bytes(*answer.first_chunk()?)
 }
 
 fn shown_ledger(ledger: &[u8]) -> String {

@@ -1,11 +1,12 @@
 //! The answer record and the codes of the checks.
 
+use std::fmt;
+
 /// Bytes of an answer record.
 pub const ANSWER_SIZE: usize = 16;
 
-/// The code of each of the sixty-four places.
 #[rustfmt::skip]
-pub const CODES: [u16; 64] = [
+const CODES: [u16; 64] = [
     /*  0 */ 9001,   10,   11,   20,   21,   22,   24,   30,
     /*  8 */   31,   40,   41,   42,   44, 9045, 9051, 9060,
     /* 16 */ 9061, 9062, 9071, 9081, 9091, 9141, 9142, 9151,
@@ -16,77 +17,141 @@ pub const CODES: [u16; 64] = [
     /* 56 */  337,  338,  339, 9381, 9391, 9392,  161, 9900,
 ];
 
-/// The code of a place, for places 0 to 63.
+/// The code of a place, `None` for a number that is no place.
 pub fn code_of(place: u8) -> Option<u16> {
     CODES.get(usize::from(place)).copied()
 }
 
 /// What became of a record.
-#[derive(Clone, Copy, Debug, PartialEq, Eq)]
+#[derive(Clone, Copy, Debug, PartialEq, Eq, Hash)]
 pub enum Status {
     /// No check failed; the record stands in its reporter's compartment.
     Booked,
-    /// The sender check failed (places 0 to 6).
+    /// The sender check failed.
     SenderFailed,
-    /// The content failed (places 7 to 60).
+    /// The sender check passed, the content failed.
     ContentFailed,
-    /// The booking failed on the compartment (places 61 to 63).
+    /// The content passed, the booking failed on the compartment.
     BookingFailed,
 }
 
+impl Status {
+    fn from_byte(byte: u8) -> Option<Self> {
+        match byte {
+            0 => Some(Status::Booked),
+            1 => Some(Status::SenderFailed),
+            2 => Some(Status::ContentFailed),
+            3 => Some(Status::BookingFailed),
+            _ => None,
+        }
+    }
+}
+
+impl fmt::Display for Status {
+    fn fmt(&self, f: &mut fmt::Formatter<'_>) -> fmt::Result {
+        f.pad(match self {
+            Status::Booked => "booked",
+            Status::SenderFailed => "sender check failed",
+            Status::ContentFailed => "content failed",
+            Status::BookingFailed => "booking failed",
+        })
+    }
+}
+
 /// The answer to one record.
-#[derive(Clone, Copy, Debug, PartialEq, Eq)]
+#[derive(Clone, Copy, PartialEq, Eq, Hash)]
 pub struct Answer {
-    /// The set of failed checks, bit k for place k.
-    pub set: u64,
-    /// The code at the lowest failed place.
-    pub first_code: Option<u16>,
-    /// The reporter's row, where the sender check passed.
-    pub reporter_row: Option<u8>,
-    /// What became of the record.
-    pub status: Status,
-    /// The new row's number in its compartment, where the record was booked.
-    pub booked_row: Option<u16>,
-    /// The record's length in bytes.
-    pub length: u16,
+    bytes: [u8; ANSWER_SIZE],
+    status: Status,
 }
 
 impl Answer {
-    /// Decodes the 16 bytes of an answer record; `None` if its status byte is no status.
-    pub fn from_bytes(bytes: &[u8; ANSWER_SIZE]) -> Option<Answer> {
-        let [s0, s1, s2, s3, s4, s5, s6, s7, c0, c1, reporter, status, r0, r1, l0, l1] = *bytes;
-        let status = match status {
-            0 => Status::Booked,
-            1 => Status::SenderFailed,
-            2 => Status::ContentFailed,
-            3 => Status::BookingFailed,
-            _ => return None,
-        };
-        let code = u16::from_le_bytes([c0, c1]);
-        let row = u16::from_le_bytes([r0, r1]);
-        Some(Answer {
-            set: u64::from_le_bytes([s0, s1, s2, s3, s4, s5, s6, s7]),
-            first_code: (code != 0).then_some(code),
-            reporter_row: (reporter != u8::MAX).then_some(reporter),
-            status,
-            booked_row: (row != u16::MAX).then_some(row),
-            length: u16::from_le_bytes([l0, l1]),
-        })
+    /// The answer in these bytes; `None` if they tell no status.
+    pub fn from_bytes(bytes: [u8; ANSWER_SIZE]) -> Option<Self> {
+        let status = Status::from_byte(bytes[11])?;
+        Some(Answer { bytes, status })
     }
 
-    /// Whether no check failed.
+    /// The answer's bytes, as document 01 lays them out.
+    pub fn as_bytes(&self) -> &[u8; ANSWER_SIZE] {
+        &self.bytes
+    }
+
+    /// What became of the record.
+    pub fn status(&self) -> Status {
+        self.status
+    }
+
+    /// Whether no check failed, and so the record was booked.
     pub fn is_booked(&self) -> bool {
         self.status == Status::Booked
     }
 
+    /// The set of failed checks, bit k for place k.
+    pub fn set(&self) -> u128 {
+        let [low @ .., _, _, _, _, _, _, _, _] = self.bytes;
+        u64::from_le_bytes(low).into()
+    }
+
     /// The failed places, lowest first.
     pub fn failed_places(&self) -> impl Iterator<Item = u8> {
-        let set = self.set;
-        (0..64).filter(move |place| set >> place & 1 == 1)
+        let set = self.set();
+        (0..128).filter(move |place| set >> place & 1 == 1)
     }
 
     /// The count of failed checks.
     pub fn failure_count(&self) -> u32 {
-        self.set.count_ones()
+        self.set().count_ones()
+    }
+
+    /// The code at the lowest failed place.
+    pub fn first_code(&self) -> Option<u16> {
+        Some(self.number_at(8)).filter(|&code| code != 0)
+    }
+
+    /// The reporter's row, where the sender check passed.
+    pub fn reporter_row(&self) -> Option<u8> {
+        Some(self.bytes[10]).filter(|&row| row != u8::MAX)
+    }
+
+    /// The new row's number in its compartment, where the record was booked.
+    pub fn booked_row(&self) -> Option<u16> {
+        Some(self.number_at(12)).filter(|&row| row != u16::MAX)
+    }
+
+    /// The record's length in bytes.
+    pub fn length(&self) -> u16 {
+        self.number_at(14)
+    }
+
+    fn number_at(&self, at: usize) -> u16 {
+        u16::from_le_bytes([self.bytes[at], self.bytes[at + 1]])
+    }
+}
+
+/// Shows the answer as a line of the program does, behind the record's number: first code, count
+/// of failed checks, reporter's row or `-`.
+impl fmt::Display for Answer {
+    fn fmt(&self, f: &mut fmt::Formatter<'_>) -> fmt::Result {
+        let code = self.first_code().unwrap_or(0);
+        write!(f, "{code:04} {} ", self.failure_count())?;
+        match self.reporter_row() {
+            Some(row) => write!(f, "{row}"),
+            None => f.write_str("-"),
+        }
+    }
+}
+
+impl fmt::Debug for Answer {
+    fn fmt(&self, f: &mut fmt::Formatter<'_>) -> fmt::Result {
+        let failed: Vec<u8> = self.failed_places().collect();
+        f.debug_struct("Answer")
+            .field("status", &self.status())
+            .field("failed_places", &failed)
+            .field("first_code", &self.first_code())
+            .field("reporter_row", &self.reporter_row())
+            .field("booked_row", &self.booked_row())
+            .field("length", &self.length())
+            .finish()
     }
 }

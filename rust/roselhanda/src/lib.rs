@@ -1,33 +1,35 @@
-//! Safe calls of the proved checks of securities transaction reports.
+//! Safe calls of the proved checks and bookings of securities transaction reports.
 //!
 //! The checks, their proofs and their exact rules (document 01) are elsewhere; this crate lends
-//! them Rust's slices and gives the answers Rust's types.
+//! them Rust's slices and gives their answers Rust's types.
 //!
 //! ```
-//! use roselhanda::{field, judge_file, judge_record, Ledger, Refusal, Status, Tables};
+//! use roselhanda::{book_file, book_record, field, Ledger, Refusal, Status, Tables};
 //!
-//! let tables = Tables {
-//!     reporters: b"98001AAAAATW1XXXMBONE   \0\0\0\0\0\0\0\0".to_vec(),
-//!     currencies: b"CHFEURUSD".to_vec(),
-//! };
+//! let reporters = b"98001AAAAATW1XXXMBONE   \0\0\0\0\0\0\0\0";
+//! let tables = Tables::new(reporters, b"CHFEURUSD");
 //! let mut ledger = Ledger::new();
 //! let record = b"B;98001;I;4711;;;B;20130903;101500;;;;;WBAH;J;;;N;S;AT0000831706;XXX;\
 //!     1500;1;EUR;54,7;;;K;;;;;;;;;;N;A1";
 //!
 //! // The first time it is booked, the second time its number is taken.
-//! let answer = judge_record(&tables, &mut ledger, b"MBONE", record)?;
-//! assert_eq!(answer.status, Status::Booked);
-//! assert_eq!((answer.reporter_row, answer.booked_row), (Some(0), Some(0)));
-//! let answer = judge_record(&tables, &mut ledger, b"MBONE", record)?;
-//! assert_eq!(answer.first_code, Some(9392));
+//! let answer = book_record(&tables, &mut ledger, b"MBONE", record)?;
+//! assert_eq!(answer.status(), Status::Booked);
+//! assert_eq!((answer.reporter_row(), answer.booked_row()), (Some(0), Some(0)));
+//! let answer = book_record(&tables, &mut ledger, b"MBONE", record)?;
+//! assert_eq!(answer.first_code(), Some(9392));
 //! assert!(answer.failed_places().eq([61]));
+//! assert_eq!(answer.to_string(), "9392 1 0");
+//! assert_eq!(format!("{ledger:?}"), "Ledger {0: 1}");
 //!
 //! // A file without records, and one that is cut off.
 //! let file = b"UNB+UNOA:1+MBONE+ATBWA+20130903:1015+W1++BWAMS'UNH+BWA+BWA:0'\r\n\
 //!     'UNT+3+BWA'UNZ+1+W1'";
-//! assert_eq!(judge_file(&tables, &mut ledger, file)?, []);
+//! assert_eq!(book_file(&tables, &mut ledger, file)?, []);
 //! let cut = &file[..file.len() - 1];
-//! assert_eq!(judge_file(&tables, &mut ledger, cut), Err(Refusal(9)));
+//! let refusal = book_file(&tables, &mut ledger, cut).unwrap_err();
+//! assert_eq!(refusal.number(), 9);
+//! assert_eq!(refusal.to_string(), "refused 9: the file does not end like a report");
 //!
 //! assert_eq!(field(record, 20), b"AT0000831706");
 //! # Ok::<(), Refusal>(())
@@ -37,112 +39,82 @@
 #![deny(unsafe_op_in_unsafe_fn)]
 
 mod answer;
+mod ledger;
 pub mod raw;
 mod refusal;
+mod tables;
 
-pub use answer::{code_of, Answer, Status, ANSWER_SIZE, CODES};
+pub use answer::{code_of, Answer, Status, ANSWER_SIZE};
+pub use ledger::{Ledger, LEDGER_SIZE};
 pub use refusal::Refusal;
+pub use tables::Tables;
 
-/// Bytes of a ledger: 16 compartments of 64 rows of 32 bytes.
-pub const LEDGER_SIZE: usize = 32_768;
 /// Most records of a file.
 pub const MOST_RECORDS: usize = 1_024;
 
-/// The reference tables of a call, as document 01 lays them out in bytes.
-#[derive(Clone, Debug, Default, PartialEq, Eq)]
-pub struct Tables {
-    /// Up to 16 rows of 32 bytes: bank code, SWIFT address, mailbox, zeros.
-    pub reporters: Vec<u8>,
-    /// Up to 512 codes of three capitals, strictly ascending.
-    pub currencies: Vec<u8>,
-}
-
-/// The bookings of all banks.
-#[derive(Clone, Debug, PartialEq, Eq)]
-pub struct Ledger(Box<[u8; LEDGER_SIZE]>);
-
-impl Ledger {
-    /// A ledger without bookings.
-    pub fn new() -> Self {
-        Ledger(Box::new([0; LEDGER_SIZE]))
-    }
-
-    /// The ledger in these bytes. Only their number is looked at here: each call tests whether
-    /// its ledger is sound.
-    pub fn from_bytes(bytes: &[u8]) -> Result<Self, Refusal> {
-        let bytes = <[u8; LEDGER_SIZE]>::try_from(bytes).map_err(|_| Refusal(4))?;
-        Ok(Ledger(Box::new(bytes)))
-    }
-
-    /// The ledger's bytes.
-    pub fn as_bytes(&self) -> &[u8; LEDGER_SIZE] {
-        &self.0
-    }
-}
-
-impl Default for Ledger {
-    fn default() -> Self {
-        Ledger::new()
-    }
-}
-
-/// Judges one record of a sender and books it when no check fails.
+/// Judges one record of a sender and books it if no check fails.
 ///
-/// Refused with 2, 3, 4, 13 or 14, the first that applies.
-pub fn judge_record(
+/// # Errors
+///
+/// Refused by 2, 3, 4, 13 or 14, the first that applies; the ledger then stays as it was.
+pub fn book_record(
     tables: &Tables,
     ledger: &mut Ledger,
     sender: &[u8],
     record: &[u8],
 ) -> Result<Answer, Refusal> {
     let mut answer = [0; ANSWER_SIZE];
-    let reply = raw::record(
+    carried_out(raw::record(
         &tables.reporters,
         &tables.currencies,
-        ledger.0.as_mut_slice(),
+        ledger.as_mut_bytes(),
         sender,
         record,
         &mut answer,
-    );
-    match reply {
-        0 => Ok(decoded(&answer)),
-        number => Err(refusal(number)),
-    }
+    ))?;
+    Ok(written(&answer))
 }
 
-/// Judges the records of a report file in file order, as single calls of its sender.
+/// Judges and books the records of a report file in order, as single calls by its sender would.
 ///
-/// Refused with 1 to 11, the first that applies.
-pub fn judge_file(
+/// # Errors
+///
+/// Refused by 1 to 11, the first that applies; the ledger then stays as it was.
+pub fn book_file(
     tables: &Tables,
     ledger: &mut Ledger,
     file: &[u8],
 ) -> Result<Vec<Answer>, Refusal> {
     let mut answers = [[0; ANSWER_SIZE]; MOST_RECORDS];
-    let reply = raw::file(
+    let mut records = 0;
+    carried_out(raw::file(
         file,
         &tables.reporters,
         &tables.currencies,
-        ledger.0.as_mut_slice(),
+        ledger.as_mut_bytes(),
         answers.as_flattened_mut(),
-    );
-    match reply.checked_sub(raw::FILE_REFUSED) {
-        None => Ok(answers[..reply as usize].iter().map(decoded).collect()),
-        Some(number) => Err(refusal(number)),
-    }
+        &mut records,
+    ))?;
+    Ok(answers[..records as usize].iter().map(written).collect())
 }
 
 /// Field `n` of a record, 1 to 39, as a part of it: the empty part at its start for another
 /// number, or for a record without 38 semicolons.
 pub fn field(record: &[u8], n: usize) -> &[u8] {
-    let (start, length) = raw::field(record, n as u64);
+    let mut length = 0;
+    let start = raw::field(record, n as u64, &mut length);
     &record[start as usize..][..length as usize]
 }
 
-fn decoded(bytes: &[u8; ANSWER_SIZE]) -> Answer {
-    Answer::from_bytes(bytes).expect("an answer's status is 0 to 3")
+/// A reply as a result.
+fn carried_out(reply: u64) -> Result<(), Refusal> {
+    match reply {
+        0 => Ok(()),
+        number => Err(Refusal::new(number)),
+    }
 }
 
-fn refusal(number: u64) -> Refusal {
-    Refusal(u8::try_from(number).expect("a refusal's number is 1 to 14"))
+/// The answer in the bytes that a call has written.
+fn written(bytes: &[u8; ANSWER_SIZE]) -> Answer {
+    Answer::from_bytes(*bytes).expect("a written answer has a status")
 }

@@ -1,49 +1,49 @@
-//! The archive's calls over plain bytes, with document 01's numbers as replies.
+//! The calls of the C header on slices: their replies are numbers, their buffers the caller's.
+//!
+//! A call gives 0 where it is carried out, else the number of its refusal, and then writes
+//! nothing.
 
 mod archive {
     extern "C" {
         pub fn roselhanda_record(
             reporters: *const u8,
-            reporters_len: usize,
+            reporters_length: usize,
             currencies: *const u8,
-            currencies_len: usize,
+            currencies_length: usize,
             ledger: *mut u8,
-            ledger_len: usize,
+            ledger_length: usize,
             sender: *const u8,
-            sender_len: usize,
+            sender_length: usize,
             record: *const u8,
-            record_len: usize,
+            record_length: usize,
             answer: *mut u8,
-            answer_len: usize,
+            answer_length: usize,
         ) -> u64;
 
         pub fn roselhanda_file(
             file: *const u8,
-            file_len: usize,
+            file_length: usize,
             reporters: *const u8,
-            reporters_len: usize,
+            reporters_length: usize,
             currencies: *const u8,
-            currencies_len: usize,
+            currencies_length: usize,
             ledger: *mut u8,
-            ledger_len: usize,
+            ledger_length: usize,
             answers: *mut u8,
-            answers_len: usize,
+            answers_length: usize,
+            records: *mut u64,
         ) -> u64;
 
         pub fn roselhanda_field(
             record: *const u8,
-            record_len: usize,
+            record_length: usize,
             n: u64,
             length: *mut u64,
         ) -> u64;
     }
 }
 
-/// Replies of [`file`] from here up are refusals: this plus the refusal's number.
-pub const FILE_REFUSED: u64 = 65_536;
-
-/// The single-record call: 0 when answered, with 16 bytes written at the start of `answer`, else
-/// the refusal's number and nothing changed.
+/// The single-record call: writes the answer to the start of `answer` and the booking to `ledger`.
 pub fn record(
     reporters: &[u8],
     currencies: &[u8],
@@ -72,17 +72,18 @@ pub fn record(
     }
 }
 
-/// The whole-file call: the count of records, with 16 bytes for each written from the start of
-/// `answers`, else [`FILE_REFUSED`] plus the refusal's number and nothing changed.
+/// The file call: writes an answer for each record from the start of `answers`, the bookings to
+/// `ledger`, and the count of records to `records`.
 pub fn file(
     file: &[u8],
     reporters: &[u8],
     currencies: &[u8],
     ledger: &mut [u8],
     answers: &mut [u8],
+    records: &mut u64,
 ) -> u64 {
-    // SAFETY: each pointer comes with the length of its slice, the slices live through the call,
-    // and the two that are written are borrowed alone.
+    // SAFETY: each pointer comes with the length of its slice, slices and word live through the
+    // call, and the three that are written are borrowed alone.
     unsafe {
         archive::roselhanda_file(
             file.as_ptr(),
@@ -95,15 +96,15 @@ pub fn file(
             ledger.len(),
             answers.as_mut_ptr(),
             answers.len(),
+            records,
         )
     }
 }
 
-/// The field view: start and length of field `n` in the record.
-pub fn field(record: &[u8], n: u64) -> (u64, u64) {
-    let mut length = 0;
-    // SAFETY: the pointer comes with the length of its slice, which lives through the call, and
-    // `length` is a local of the size that is written.
-    let start = unsafe { archive::roselhanda_field(record.as_ptr(), record.len(), n, &mut length) };
-    (start, length)
+/// The field view, never refused: gives where field `n` of the record starts, and writes its
+/// length to `length`.
+pub fn field(record: &[u8], n: u64, length: &mut u64) -> u64 {
+    // SAFETY: the pointer comes with the length of its slice, slice and word live through the
+    // call, and the word is borrowed alone.
+    unsafe { archive::roselhanda_field(record.as_ptr(), record.len(), n, length) }
 }

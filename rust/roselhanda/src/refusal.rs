@@ -3,36 +3,45 @@
 use std::error::Error;
 use std::fmt;
 
-/// Why a call was refused, by document 01's number: 1 to 14. A refused call changes nothing.
+/// Why a call was refused; a refused call changes nothing.
 #[derive(Clone, Copy, Debug, PartialEq, Eq, Hash)]
-pub struct Refusal(pub u8);
+pub struct Refusal(u64);
 
 impl Refusal {
-    /// The reason, in document 01's words.
+    pub(crate) fn new(number: u64) -> Self {
+        Refusal(number)
+    }
+
+    /// The number that document 01 gives this refusal, 1 to 14.
+    pub fn number(self) -> u64 {
+        self.0
+    }
+
+    /// The reason in words.
     pub fn reason(self) -> &'static str {
         match self.0 {
-            1 => "file over 32,768 bytes",
-            2 => "reporters table not as document 01 lays it out",
-            3 => "currency list not as document 01 lays it out",
-            4 => "ledger of another length or not sound",
-            5 => "head not of the layout, date and time digits included",
-            6 => "date not real in 2000 to 2099, or time not 0000 to 2359 with minutes to 59",
-            7 => "receiver is not ATBWA",
-            8 => "body not of the layout",
-            9 => "tail not of the layout, word form included",
-            10 => "the two words differ",
-            11 => "over 1,024 records",
-            12 => "answer buffer under 16 bytes a record",
-            13 => "sender not 1 to 8 capitals or digits",
-            14 => "record over 32,768 bytes or with CR, LF or apostrophe",
-            _ => "no refusal of document 01",
+            1 => "the file is larger than 32,768 bytes",
+            2 => "the reporters are malformed, or a bank stands twice among them",
+            3 => "the currencies are malformed, out of order, or hold a special code",
+            4 => "the ledger is damaged or has the wrong size",
+            5 => "the file does not begin like a report",
+            6 => "the report is dated on a day or at a time that does not exist",
+            7 => "the report is addressed to somebody else",
+            8 => "the records do not stand one to a line",
+            9 => "the file does not end like a report",
+            10 => "the report ends with another control word than it begins with",
+            11 => "the report has more than 1,024 records",
+            12 => "there is no room for all answers",
+            13 => "the sender is no mailbox name",
+            14 => "the record is too long, or has an end of line or an apostrophe in it",
+            _ => "no reason is known for this number",
         }
     }
 }
 
 impl fmt::Display for Refusal {
     fn fmt(&self, f: &mut fmt::Formatter<'_>) -> fmt::Result {
-        write!(f, "refused {}: {}", self.0, self.reason())
+        write!(f, "refused {}: {}", self.number(), self.reason())
     }
 }
 

@@ -1,7 +1,7 @@
 //! The worked inputs of document 01 through the safe calls.
 
 use roselhanda::{
-    code_of, field, judge_file, judge_record, Answer, Ledger, Refusal, Status, Tables, CODES,
+    book_file, book_record, code_of, field, Answer, Ledger, Refusal, Status, Tables, LEDGER_SIZE,
 };
 
 const REPORTERS: &[u8] = b"98001AAAAATW1XXXMBONE   \0\0\0\0\0\0\0\0\
@@ -17,53 +17,43 @@ const REPORT: &str = "UNB+UNOA:1+MBONE+ATBWA+20130903:1015+W1++BWAMS'UNH+BWA+BWA
     'UNT+3+BWA'UNZ+1+W1'";
 
 fn tables() -> Tables {
-    Tables {
-        reporters: REPORTERS.to_vec(),
-        currencies: b"CHFEURUSD".to_vec(),
-    }
-}
-
-/// An answer as the program prints it: number, first code, failures, reporter row.
-fn line((at, answer): (usize, &Answer)) -> String {
-    let code = answer.first_code.unwrap_or(0);
-    let row = answer
-        .reporter_row
-        .map_or("-".to_string(), |row| row.to_string());
-    format!("{} {code:04} {} {row}", at + 1, answer.failure_count())
+    Tables::new(REPORTERS, b"CHFEURUSD")
 }
 
 #[test]
 fn the_worked_report() {
     let mut ledger = Ledger::new();
-    let answers = judge_file(&tables(), &mut ledger, REPORT.as_bytes()).unwrap();
-    let lines: Vec<String> = answers.iter().enumerate().map(line).collect();
-    let expected = [
-        "1 0000 0 0",
-        "2 0024 1 -",
-        "3 0000 0 0",
-        "4 0161 1 0",
-        "5 0282 2 0",
-    ];
-    assert_eq!(lines, expected);
+    let answers = book_file(&tables(), &mut ledger, REPORT.as_bytes()).unwrap();
+    let lines: Vec<String> = answers.iter().map(Answer::to_string).collect();
     assert_eq!(
-        answers.iter().filter(|answer| answer.is_booked()).count(),
-        2
+        lines,
+        ["0000 0 0", "0024 1 -", "0000 0 0", "0161 1 0", "0282 2 0"]
     );
-    assert_eq!(answers[4].set, 87_960_930_222_080);
+    let statuses: Vec<Status> = answers.iter().map(Answer::status).collect();
+    assert_eq!(
+        statuses,
+        [
+            Status::Booked,
+            Status::SenderFailed,
+            Status::Booked,
+            Status::BookingFailed,
+            Status::ContentFailed,
+        ]
+    );
+    assert_eq!(answers.iter().filter(|a| a.is_booked()).count(), 2);
+    assert_eq!(answers[2].booked_row(), Some(1));
+    assert_eq!(answers[4].set(), 87_960_930_222_080);
     assert!(answers[4].failed_places().eq([44, 46]));
-    assert_eq!(answers[1].status, Status::SenderFailed);
-    assert_eq!(answers[3].status, Status::BookingFailed);
-    assert_eq!(answers[4].status, Status::ContentFailed);
-    assert_eq!(answers[2].booked_row, Some(1));
+    assert_eq!(answers[4].length(), 102);
 }
 
 #[test]
 fn a_file_is_its_single_calls() {
     let (mut together, mut singly) = (Ledger::new(), Ledger::new());
-    let answers = judge_file(&tables(), &mut together, REPORT.as_bytes()).unwrap();
+    let answers = book_file(&tables(), &mut together, REPORT.as_bytes()).unwrap();
     let records = REPORT.lines().skip(1).take(5);
     let single = records
-        .map(|record| judge_record(&tables(), &mut singly, b"MBONE", record.as_bytes()).unwrap());
+        .map(|record| book_record(&tables(), &mut singly, b"MBONE", record.as_bytes()).unwrap());
     assert!(single.eq(answers));
     assert_eq!(together, singly);
 }
@@ -71,19 +61,61 @@ fn a_file_is_its_single_calls() {
 #[test]
 fn refusals() {
     let mut ledger = Ledger::new();
-    let refused = judge_file(&tables(), &mut ledger, b"");
-    assert_eq!(refused, Err(Refusal(5)));
+    let mut single = |sender, record| book_record(&tables(), &mut ledger, sender, record);
+    assert_eq!(single(b"", b"").unwrap_err().number(), 13);
+    assert_eq!(single(b"M", b"'").unwrap_err().number(), 14);
+    assert_eq!(ledger, Ledger::new());
+
+    let whole = |tables: &Tables, file| book_file(tables, &mut Ledger::new(), file);
+    assert_eq!(whole(&tables(), b"").unwrap_err().number(), 5);
+    let stranger = REPORT.replace("ATBWA", "ATBWB");
+    let refusal = whole(&tables(), stranger.as_bytes()).unwrap_err();
     assert_eq!(
-        judge_record(&tables(), &mut ledger, b"", b""),
-        Err(Refusal(13))
+        refusal.to_string(),
+        "refused 7: the report is addressed to somebody else"
     );
+    let mut tables = tables();
+    tables.currencies.push(b'X');
+    let refusal = whole(&tables, REPORT.as_bytes()).unwrap_err();
+    assert_eq!(refusal.number(), 3);
+}
+
+#[test]
+fn ledgers_as_bytes() {
+    let mut ledger = Ledger::new();
+    book_file(&tables(), &mut ledger, REPORT.as_bytes()).unwrap();
+    assert_eq!(ledger.as_bytes().len(), LEDGER_SIZE);
+    assert_eq!(Ledger::from_bytes(ledger.as_bytes()), Ok(ledger.clone()));
+    let refusal: Refusal = Ledger::from_bytes(&[0; 32]).unwrap_err();
+    assert_eq!(refusal.number(), 4);
+}
+
+#[test]
+fn what_people_read() {
+    let mut ledger = Ledger::new();
+    let answers = book_file(&tables(), &mut ledger, REPORT.as_bytes()).unwrap();
+    assert_eq!(format!("{ledger:?}"), "Ledger {0: 2}");
+    assert_eq!(format!("{:?}", Ledger::new()), "Ledger {}");
     assert_eq!(
-        judge_record(&tables(), &mut ledger, b"M", b"'"),
-        Err(Refusal(14))
+        format!("{:?}", answers[4]),
+        "Answer { status: ContentFailed, failed_places: [44, 46], first_code: Some(282), \
+         reporter_row: Some(0), booked_row: None, length: 102 }"
     );
-    assert_eq!(Ledger::from_bytes(&[0; 32]), Err(Refusal(4)));
-    assert_eq!(Ledger::from_bytes(ledger.as_bytes()), Ok(Ledger::new()));
-    assert_eq!(Refusal(7).to_string(), "refused 7: receiver is not ATBWA");
+    assert_eq!(answers[3].status().to_string(), "booking failed");
+    assert_eq!(
+        format!("{:?}", Tables::new(b"", b"CHFEUR")),
+        "Tables { reporters: \"\", currencies: \"CHFEUR\" }"
+    );
+}
+
+#[test]
+fn answers_as_bytes() {
+    let record = REPORT.lines().nth(1).unwrap().as_bytes();
+    let answer = book_record(&tables(), &mut Ledger::new(), b"MBONE", record).unwrap();
+    assert_eq!(Answer::from_bytes(*answer.as_bytes()), Some(answer));
+    let mut bytes = *answer.as_bytes();
+    bytes[11] = 4;
+    assert_eq!(Answer::from_bytes(bytes), None);
 }
 
 #[test]
@@ -97,5 +129,4 @@ fn fields_and_codes() {
         (code_of(0), code_of(62), code_of(64)),
         (Some(9001), Some(161), None)
     );
-    assert_eq!(CODES.len(), 64);
 }

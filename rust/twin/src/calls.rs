@@ -5,6 +5,7 @@ use crate::envelope::{Envelope, LONGEST_FILE};
 use crate::fields;
 use crate::forms::{is_name, ten_thousandths};
 use crate::ledger::{Entry, Ledger};
+use crate::refusal::Refusal;
 use crate::tables::{Currencies, Reporters};
 
 /// Bytes of an answer record.
@@ -14,27 +15,6 @@ pub const LONGEST_RECORD: usize = 32_768;
 
 const NO_REPORTER: u8 = 255;
 const NO_ROW: u16 = 65_535;
-
-/// Why a call was refused; its number is document 01's.
-#[derive(Clone, Copy, Debug, PartialEq, Eq)]
-#[repr(u8)]
-#[allow(missing_docs)]
-pub enum Refusal {
-    FileTooLong = 1,
-    Reporters = 2,
-    Currencies = 3,
-    Ledger = 4,
-    Head = 5,
-    DateOrTime = 6,
-    Receiver = 7,
-    Body = 8,
-    Tail = 9,
-    ControlWords = 10,
-    TooManyRecords = 11,
-    AnswerBuffer = 12,
-    Sender = 13,
-    Record = 14,
-}
 
 /// Tables and ledger of a call, all found to be as document 01 wants them.
 struct Books<'a> {
@@ -56,8 +36,8 @@ impl<'a> Books<'a> {
         })
     }
 
-    /// Judges a record and books it when no check fails.
-    fn judge(&mut self, sender: &[u8], record: &[u8]) -> Answer {
+    /// Judges a record, and books it when no check fails.
+    fn book(&mut self, sender: &[u8], record: &[u8]) -> Answer {
         let failed = |failures, reporter| Answer {
             failures,
             reporter,
@@ -128,8 +108,12 @@ impl Answer {
 }
 
 /// The single-record call: judges one record of a sender, books it when no check fails, and
-/// writes 16 bytes at the start of `answer`. A refused call changes nothing.
-pub fn judge_record(
+/// writes 16 bytes at the start of `answer`.
+///
+/// # Errors
+///
+/// Refused by 2, 3, 4, 13, 14 or 12, the first that applies; nothing is changed then.
+pub fn book_record(
     reporters: &[u8],
     currencies: &[u8],
     ledger: &mut [u8],
@@ -149,14 +133,17 @@ pub fn judge_record(
         return Err(Refusal::Record);
     }
     let answer = answer.first_chunk_mut().ok_or(Refusal::AnswerBuffer)?;
-    *answer = books.judge(sender, record).to_bytes();
+    *answer = books.book(sender, record).to_bytes();
     Ok(())
 }
 
 /// The whole-file call: opens the envelope, judges its records in file order as single calls of
-/// its sender, writes 16 bytes for each from the start of `answers`, and gives their count. A
-/// refused call changes nothing.
-pub fn judge_file(
+/// its sender, writes 16 bytes for each from the start of `answers`, and gives their count.
+///
+/// # Errors
+///
+/// Refused by 1 to 12, the first that applies; nothing is changed then.
+pub fn book_file(
     file: &[u8],
     reporters: &[u8],
     currencies: &[u8],
@@ -172,7 +159,7 @@ pub fn judge_file(
     let (answers, _) = answers.as_chunks_mut();
     let answers = answers.get_mut(..count).ok_or(Refusal::AnswerBuffer)?;
     for (answer, record) in answers.iter_mut().zip(envelope.records) {
-        *answer = books.judge(envelope.sender, record).to_bytes();
+        *answer = books.book(envelope.sender, record).to_bytes();
     }
     Ok(count)
 }

@@ -53,7 +53,11 @@ impl Failures {
     }
 }
 
-/// Places 1 to 6: the reporter row that the record passes for, or the failures.
+/// Places 1 to 6: the reporter row that the record passes for.
+///
+/// # Errors
+///
+/// The failures, if there are any.
 pub fn check_sender<'a>(
     fields: &Fields,
     reporters: Reporters<'a>,
@@ -230,8 +234,11 @@ pub fn check_content(fields: &Fields, reporter: Reporter, currencies: Currencies
     failures
 }
 
-/// Places 61 to 63, on the compartment as it stands: the live row to cancel, if any, or the
-/// failures.
+/// Places 61 to 63, on the compartment as it stands: the live row to cancel, if any.
+///
+/// # Errors
+///
+/// The failures, if there are any.
 pub fn check_booking(
     fields: &Fields,
     compartment: &Compartment,

@@ -1,7 +1,7 @@
 //! The envelope of a report file.
 
-use crate::calls::Refusal;
 use crate::forms::{is_date, is_name, is_time_of_day};
+use crate::refusal::Refusal;
 
 /// Most bytes of a file.
 pub const LONGEST_FILE: usize = 32_768;
@@ -20,6 +20,10 @@ pub struct Envelope<'a> {
 
 impl<'a> Envelope<'a> {
     /// Reads the whole layout: head, body and tail.
+    ///
+    /// # Errors
+    ///
+    /// Refused by 5 to 11, the first that applies.
     pub fn open(file: &'a [u8]) -> Result<Self, Refusal> {
         let (head, rest) = read_head(file).ok_or(Refusal::Head)?;
         if !is_date(head.date) || !is_time_of_day(head.time) {

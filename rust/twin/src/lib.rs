@@ -12,7 +12,9 @@ pub mod envelope;
 pub mod fields;
 pub mod forms;
 pub mod ledger;
+pub mod refusal;
 pub mod tables;
 
-pub use calls::{judge_file, judge_record, Refusal};
+pub use calls::{book_file, book_record};
 pub use fields::field;
+pub use refusal::Refusal;
