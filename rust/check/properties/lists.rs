@@ -2,13 +2,13 @@
 //! over them.
 
 use roselhanda::raw;
-use roselhanda::ANSWER_SIZE;
+use roselhanda::{Answer, ANSWER_SIZE};
 
 use crate::compare::{FileCall, Outcome, RecordCall};
 use crate::files::{control_word, damage, Parts};
 use crate::records::{edit, valid, Setting};
 use crate::rng::Rng;
-use crate::tally::{decoded, Check};
+use crate::tally::Check;
 use crate::values::name;
 use crate::world::{ledger, rows_of, World, BANKS, COMPARTMENT_SIZE, LEDGER_SIZE};
 
@@ -179,7 +179,8 @@ struct Judged<'a> {
 impl Judged<'_> {
     /// The bank that the record passed the sender check for.
     fn bank(&self) -> Option<usize> {
-        decoded(&self.answer)?.reporter_row().map(usize::from)
+        let answer = Answer::from_bytes(&self.answer)?;
+        answer.reporter_row().map(usize::from)
     }
 
     /// Whether a single call on this ledger gives the same answer.

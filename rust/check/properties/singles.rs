@@ -2,11 +2,12 @@
 //! refusals, and the field view.
 
 use roselhanda::raw;
+use roselhanda::{code_of, Answer};
 
 use crate::compare::RecordCall;
 use crate::records::{edit, valid, Record, Setting};
 use crate::rng::Rng;
-use crate::tally::{decoded, set_of, Check};
+use crate::tally::{set_of, Check};
 use crate::values::{name, near};
 use crate::world::{compartment, fill, ledger, put, rows_of, World, LEDGER_SIZE};
 
@@ -33,7 +34,7 @@ pub fn worked_records() -> Vec<Vec<u8>> {
     ]
 }
 
-/// The worked inputs, with the answers that document 01 prints.
+/// The worked inputs, with the answers that document 01 prints; and the codes of both sides.
 pub fn worked_inputs(check: &mut Check) {
     check.section("single calls: worked inputs");
     let world = World::worked();
@@ -54,7 +55,7 @@ pub fn worked_inputs(check: &mut Check) {
             record,
             room: 20,
         });
-        let answer = decoded(&left.answers).expect("worked inputs are answered");
+        let answer = Answer::from_bytes(&left.answers).expect("worked inputs are answered");
         ledger.clone_from(&left.ledger);
         let found = (answer.set(), answer.reporter_row(), answer.booked_row());
         check.case(found == expected, || {
@@ -75,6 +76,9 @@ pub fn worked_inputs(check: &mut Check) {
     let zeros = ledger[64..].iter().all(|&byte| byte == 0);
     check.case(ledger[..64] == row && zeros, || {
         "the ledger of the worked inputs".into()
+    });
+    check.case((0..).map_while(code_of).eq(twin::checks::CODES), || {
+        "the codes of the places".into()
     });
 }
 

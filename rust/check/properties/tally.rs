@@ -2,7 +2,7 @@
 
 use std::time::Instant;
 
-use roselhanda::{code_of, Answer, ANSWER_SIZE};
+use roselhanda::{code_of, ANSWER_SIZE};
 
 use crate::compare::{FileCall, Left, Outcome, RecordCall, Sides};
 
@@ -300,11 +300,6 @@ fn count_answers(places: &mut [PlaceHits; 64], answers: &[u8]) {
 /// The set of failed checks of an answer record.
 pub fn set_of(answer: &[u8]) -> u64 {
     u64::from_le_bytes(*answer.first_chunk().expect("an answer has 16 bytes"))
-}
-
-/// An answer record in Rust's types.
-pub fn decoded(answer: &[u8]) -> Option<Answer> {
-    Answer::from_bytes(*answer.first_chunk()?)
 }
 
 fn shown_ledger(ledger: &[u8]) -> String {

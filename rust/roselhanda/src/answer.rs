@@ -66,14 +66,16 @@ pub struct Answer {
 }
 
 impl Answer {
-    /// The answer in these bytes; `None` if they tell no status.
-    pub fn from_bytes(bytes: [u8; ANSWER_SIZE]) -> Option<Self> {
+    /// The answer in these bytes, as [`Answer::as_bytes`] gave them; `None` if they are not
+    /// [`ANSWER_SIZE`] or tell no status.
+    pub fn from_bytes(bytes: &[u8]) -> Option<Self> {
+        let bytes: [u8; ANSWER_SIZE] = bytes.try_into().ok()?;
         let status = Status::from_byte(bytes[11])?;
         Some(Answer { bytes, status })
     }
 
     /// The answer's bytes, as document 01 lays them out.
-    pub fn as_bytes(&self) -> &[u8; ANSWER_SIZE] {
+    pub fn as_bytes(&self) -> &[u8] {
         &self.bytes
     }
 
@@ -89,8 +91,8 @@ impl Answer {
 
     /// The set of failed checks, bit k for place k.
     pub fn set(&self) -> u128 {
-        let [low @ .., _, _, _, _, _, _, _, _] = self.bytes;
-        u64::from_le_bytes(low).into()
+        let bytes = self.bytes[..8].iter().rev();
+        bytes.fold(0, |set, &byte| set << 8 | u128::from(byte))
     }
 
     /// The failed places, lowest first.

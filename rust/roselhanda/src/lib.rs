@@ -116,5 +116,5 @@ fn carried_out(reply: u64) -> Result<(), Refusal> {
 
 /// The answer in the bytes that a call has written.
 fn written(bytes: &[u8; ANSWER_SIZE]) -> Answer {
-    Answer::from_bytes(*bytes).expect("a written answer has a status")
+    Answer::from_bytes(bytes).expect("a written answer has a status")
 }

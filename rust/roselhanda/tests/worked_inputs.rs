@@ -112,10 +112,11 @@ fn what_people_read() {
 fn answers_as_bytes() {
     let record = REPORT.lines().nth(1).unwrap().as_bytes();
     let answer = book_record(&tables(), &mut Ledger::new(), b"MBONE", record).unwrap();
-    assert_eq!(Answer::from_bytes(*answer.as_bytes()), Some(answer));
-    let mut bytes = *answer.as_bytes();
+    assert_eq!(Answer::from_bytes(answer.as_bytes()), Some(answer));
+    assert_eq!(Answer::from_bytes(&answer.as_bytes()[1..]), None);
+    let mut bytes = answer.as_bytes().to_vec();
     bytes[11] = 4;
-    assert_eq!(Answer::from_bytes(bytes), None);
+    assert_eq!(Answer::from_bytes(&bytes), None);
 }
 
 #[test]
