@@ -1,4 +1,5 @@
 pub mod PieceLaws
+pub mod StageLaws
 pub mod LineLaws
 pub mod OpenedLaws
 pub mod WrittenLaws
