@@ -1,7 +1,7 @@
 use borrow.Author.Needs.{needs}
 use native.Mathlib.Omega.{arith}
-use mathlib.Core.Path.{_≡_, refl, ap, _∙_}
-use Prim.Native.Nat.{ℕ, _-_, _≤_}
+use mathlib.Core.Path.{_≡_, refl}
+use Prim.Native.Nat.{_-_, _≤_}
 use lib.ListN.{length}
 use Rattle.page.specs.Page.{page, appended}
 use Rattle.page.proofs.PageLaws.{appended-length}
@@ -20,39 +20,17 @@ abbrev μ-loop : tie.MeasureT-loop
 loop-holds : tie.Need-loop-holds Inv-loop μ-loop
 loop-holds c = (search needs, refl, lines-none _ _)
 
-add-append-line : tie.Need-add-append-line Inv-loop μ-loop
-add-append-line c = search needs
-
-answer-to-requires : tie.Need-answer-to-requires Inv-loop μ-loop
-answer-to-requires c κs = tt
-
-append-line-requires : tie.Need-append-line-requires Inv-loop μ-loop
-append-line-requires c κs = tt
-
-add-k : tie.Need-add-k Inv-loop μ-loop
-add-k c = search needs
-
-loop-less : tie.Need-loop-less Inv-loop μ-loop
-loop-less c = search needs
-
 loop-again : tie.Need-loop-again Inv-loop μ-loop
 loop-again c =
-    let back6 = c .before .before .before .before .before .before in
-    let back9 = back6 .before .before .before in
-    let c-args = back9 .args in
-    let c-loop = back6 .loop in
-    let more = lines-more (page (c-args .out .now) (c-args .at)) (c-args .answers .now) (c-loop .k) (c-loop .inv .2)
-    (c .before .before .before .answer-to .ensures) (c .before .before .append-line .ensures) in
-    (search needs, appended-length (page (c-args .out .now) (c-args .at)) _ more, more)
-
-same-length : tie.Need-same-length Inv-loop μ-loop
-same-length c = search needs
+    let turn = c .before .before .before .before .before .before in
+    let line = c .before .before in
+    let more = lines-more _ _ _ (turn .loop .inv .2) (line .before .answer-to .ensures) (line .append-line .ensures) in
+    (search needs, appended-length _ _ more, more)
 
 returns : tie.Need-returns Inv-loop μ-loop
 returns c =
-    let c-args' = c .before .before .before .before .args in
-    let e : (c .before .loop .k) ≡ (c-args' .n) = omega arith in
-    (c .before .loop .inv .2) ∙ ap (λ (m : ℕ). appended (page (c-args' .out .now) (c-args' .at)) (linesText m (c-args' .answers .now))) e
+    let done : c .before .loop .k ≡ c .before .before .before .before .args .n = omega arith in
+    rw (← done) (c .before .loop .inv .2)
 
 pub append-lines-spec : {M : Type 1} → statement M
 append-lines-spec =
@@ -61,11 +39,11 @@ append-lines-spec =
     Inv-loop
     μ-loop
     loop-holds
-    add-append-line
-    answer-to-requires
-    append-line-requires
-    add-k
-    loop-less
+    (λ c. search needs)
+    (λ c κs. tt)
+    (λ c κs. tt)
+    (λ c. search needs)
+    (λ c. search needs)
     loop-again
-    same-length
+    (λ c. search needs)
     returns)

@@ -5,41 +5,17 @@ use borrow.Author.Needs.{needs}
 use Rattle.results.proofs.append_row.Statement.{statement}
 use Rattle.results.proofs.append_row.Tie as tie
 
-slice-aggregate-append : tie.Need-slice-aggregate-append
-slice-aggregate-append c = search needs
-
-append-requires : tie.Need-append-requires
-append-requires c κs = tt
-
-same-length : tie.Need-same-length
-same-length c = search needs
-
 returns : tie.Need-returns
 returns c =
-    let back5 = c .before .before .before .before .before in
-    let back7 = back5 .before .before in
-    c .before .before .append .ensures ∙ ap (appended _) (sym (row-none (back7 .args .row) (back5 .if1 .taken)))
-
-append-number-requires : tie.Need-append-number-requires
-append-number-requires c κs = tt
-
-same-length-2 : tie.Need-same-length-2
-same-length-2 c = search needs
+    let none = c .before .before .before .before .before in
+    c .before .before .append .ensures ∙ ap (appended _) (sym (row-none _ (none .if1 .taken)))
 
 returns-2 : tie.Need-returns-2
 returns-2 c =
-    let back4 = c .before .before .before .before in
-    let back6 = back4 .before .before in
-    c .before .before .append-number .ensures ∙ ap (appended _) (row-number (back6 .args .row) (back4 .if1 .left))
+    let some = c .before .before .before .before in
+    c .before .before .append-number .ensures ∙ ap (appended _) (row-number _ (some .if1 .left))
 
 pub append-row-spec : {M : Type 1} → statement M
 append-row-spec =
     tie.close
-    (tie.spec
-    slice-aggregate-append
-    append-requires
-    same-length
-    returns
-    append-number-requires
-    same-length-2
-    returns-2)
+    (tie.spec (λ c. search needs) (λ c κs. tt) (λ c. search needs) returns (λ c κs. tt) (λ c. search needs) returns-2)
