@@ -40,34 +40,11 @@ use Rattle.calls.specs.Call.{Call, called, recordLimit, noReporter, noRo
 use Rattle.calls.specs.Call.{foundRows, stepFailures, stepAnswer, stepCompartment}
 use Rattle.calls.specs.Rules.{rules}
 
--- the returns of the refusals, in their order
-module _ (reporters currencies : List ℕ) (call : Call) (sound : Bool) where
-  pub refused-2 : reportersOk reporters ≡ false → 2 ≡ refusalOf reporters currencies call sound
-  unfolding refusalOf
-  refused-2 a = rw a refl
-
-  module _ (a : reportersOk reporters ≡ true) where
-    pub refused-3 : currenciesOk currencies ≡ false → 3 ≡ refusalOf reporters currencies call sound
-    unfolding refusalOf
-    refused-3 b = rw (a, b) refl
-
-    module _ (b : currenciesOk currencies ≡ true) where
-      pub refused-4 : sound ≡ false → 4 ≡ refusalOf reporters currencies call sound
-      unfolding refusalOf
-      refused-4 d = rw (a, b, d) refl
-
-      module _ (d : sound ≡ true) where
-        pub refused-13 : nameUpTo 8 (call .sender) ≡ false → 13 ≡ refusalOf reporters currencies call sound
-        unfolding refusalOf
-        refused-13 e = rw (a, b, d, e) refl
-
-        pub refused-14 : nameUpTo 8 (call .sender) ≡ true → recordForm (call .«record») ≡ false → 14 ≡ refusalOf reporters currencies call sound
-        unfolding refusalOf
-        refused-14 e f = rw (a, b, d, e, f) refl
-
-        pub accepted-call : nameUpTo 8 (call .sender) ≡ true → recordForm (call .«record») ≡ true → 0 ≡ refusalOf reporters currencies call sound
-        unfolding refusalOf
-        accepted-call e f = rw (a, b, d, e, f) refl
+-- a call to which no refusal applies
+pub accepted-call : (reporters currencies : List ℕ) (call : Call) (sound : Bool) → reportersOk reporters ≡ true → currenciesOk currencies ≡ true
+    → sound ≡ true → nameUpTo 8 (call .sender) ≡ true → recordForm (call .«record») ≡ true → 0 ≡ refusalOf reporters currencies call sound
+unfolding refusalOf
+accepted-call reporters currencies call sound a b d e f = rw (a, b, d, e, f) refl
 
 -- what holds of a call that is not refused
 pub record Accepted (reporters currencies : List ℕ) (call : Call) (sound : Bool) : Type 0 where

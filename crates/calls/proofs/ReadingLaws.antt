@@ -7,7 +7,7 @@ use mathlib.Core.Bool.{Bool, true, false, not, cond}
 use mathlib.Core.List.{List}
 use mathlib.Core.Path.{_≡_, refl, ap, sym, _∙_}
 use borrow.Author.Tests.{ne-eqb, lt-ltb, le-ltb, ltb-false}
-use lib.Dec.{eqb, ltb}
+use lib.Dec.{ltb}
 use lib.ListN.{length, length-take, length-drop, length-map}
 use Rattle.frame.specs.Reply.{Reply, refused, accepted, refusalIn}
 use Rattle.tables.specs.Reporters.{reportersOk}
@@ -26,31 +26,8 @@ use Rattle.calls.specs.Filing.{fileLimit, lentRefusal, reportCalls, open
 use Rattle.calls.specs.FileSteps.{callsFrom, Admitted, Open}
 use Rattle.calls.proofs.RecordLaws.{body-admitted}
 
--- the returns of refusals 1 to 4, in their order
 module _ (reporters currencies file : List ℕ) (sound : Bool) where
-  pub lent-1 : fileLimit < length file → 1 ≡ lentRefusal reporters currencies file sound
-  unfolding lentRefusal
-  lent-1 h = rw (lt-ltb _ _ h)
-
-  module _ (h : length file ≤ fileLimit) where
-    pub lent-2 : reportersOk reporters ≡ false → 2 ≡ lentRefusal reporters currencies file sound
-    unfolding lentRefusal
-    lent-2 a = rw (le-ltb _ _ h, a)
-
-    module _ (a : reportersOk reporters ≡ true) where
-      pub lent-3 : currenciesOk currencies ≡ false → 3 ≡ lentRefusal reporters currencies file sound
-      unfolding lentRefusal
-      lent-3 b = rw (le-ltb _ _ h, a, b)
-
-      pub lent-4 : currenciesOk currencies ≡ true → sound ≡ false → 4 ≡ lentRefusal reporters currencies file sound
-      unfolding lentRefusal
-      lent-4 b d = rw (le-ltb _ _ h, a, b, d)
-
-      pub lent-none : currenciesOk currencies ≡ true → sound ≡ true → 0 ≡ lentRefusal reporters currencies file sound
-      unfolding lentRefusal
-      lent-none b d = rw (le-ltb _ _ h, a, b, d)
-
-  -- what holds of a file to which none of them applies
+  -- what holds of a file to which none of refusals 1 to 4 applies
   pub record Lent : Type 0 where
     pub short : length file ≤ fileLimit
     pub listed : reportersOk reporters ≡ true

@@ -27,3 +27,10 @@ holds {a} b e q h = e ∙ ap (λ (y : Bool). cond y a b) (sym q ∙ not-false _ 
 
 pub fails : {A : Type 0} {v b : A} (a : A) {x r : Bool} → v ≡ cond x a b → r ≡ x → not r ≡ true → b ≡ v
 fails {b} a e q h = sym (e ∙ ap (λ (y : Bool). cond y a b) (sym q ∙ not-true _ h))
+
+-- a test that refuses: where it fails the chain goes on
+abbrev pub passes : {A : Type 0} {v : A} (a b : A) {x t : Bool} → v ≡ cond x a b → t ≡ x → t ≡ false → Followed A
+passes {v} a b e q h = record { whole = v; rest = b; same = e ∙ ap (λ (y : Bool). cond y a b) (sym q ∙ h) }
+
+pub refuses : {A : Type 0} {v a : A} (b : A) {x t : Bool} → v ≡ cond x a b → t ≡ x → t ≡ true → a ≡ v
+refuses {a} b e q h = sym (e ∙ ap (λ (y : Bool). cond y a b) (sym q ∙ h))

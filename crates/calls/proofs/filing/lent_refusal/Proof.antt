@@ -1,44 +1,54 @@
-use mathlib.Core.Path.{sym, _∙_}
-use borrow.Author.Tests.{not-true, not-false}
-use Rattle.calls.proofs.ReadingLaws.{lent-1, lent-2, lent-3, lent-4, lent-none}
+use Prim.Native.Nat.{ℕ}
+use mathlib.Core.Bool.{not}
+use mathlib.Core.Path.{refl, ap, sym}
+use borrow.Author.Tests.{lt-ltb, le-ltb}
+use Rattle.ledger.specs.Sound.{soundLedger}
+use Rattle.envelope.proofs.StageLaws.{Followed, passes, refuses}
+use Rattle.calls.specs.Filing.{lentRefusal}
 use Rattle.calls.proofs.filing.lent_refusal.Statement.{statement}
 use Rattle.calls.proofs.filing.lent_refusal.Tie as tie
 
+-- The refusals in their order, followed as far as their tests fail.
 returns : tie.Need-returns
-returns c = lent-1 _ _ _ _ (c .if1 .taken)
+unfolding lentRefusal
+returns c = refuses _ refl refl (lt-ltb _ _ (c .if1 .taken))
+
+abbrev short : tie.Else1 → Followed ℕ
+unfolding lentRefusal
+short c =
+    let a = c .before .before .before .before .before .args in
+    let number = lentRefusal (a .reporters .now) (a .currencies .now) (a .file .now) (soundLedger (a .ledger .now)) in
+    passes {v = number} _ _ refl refl (le-ltb _ _ (c .if1 .left))
 
 returns-2 : tie.Need-returns-2
-returns-2 c = lent-2 _ _ _ _ (c .before .before .if1 .left) (sym (c .before .reporters-ok .ensures) ∙ not-true _ (c .if2 .taken))
+unfolding lentRefusal
+returns-2 c = refuses _ (short (c .before .before) .same) (ap not (c .before .reporters-ok .ensures)) (c .if2 .taken)
+
+abbrev listed : tie.Else2 → Followed ℕ
+unfolding lentRefusal
+listed c = passes _ _ (short (c .before .before) .same) (ap not (c .before .reporters-ok .ensures)) (c .if2 .left)
 
 returns-3 : tie.Need-returns-3
-returns-3 c =
-    let second = c .before .before in
-    lent-3 _ _ _ _ (second .before .before .if1 .left) (sym (second .before .reporters-ok .ensures) ∙ not-false _ (second .if2 .left))
-    (sym (c .before .currencies-ok .ensures) ∙ not-true _ (c .if3 .taken))
+unfolding lentRefusal
+returns-3 c = refuses _ (listed (c .before .before) .same) (ap not (c .before .currencies-ok .ensures)) (c .if3 .taken)
+
+abbrev ordered : tie.Else3 → Followed ℕ
+unfolding lentRefusal
+ordered c = passes _ _ (listed (c .before .before) .same) (ap not (c .before .currencies-ok .ensures)) (c .if3 .left)
 
 returns-4 : tie.Need-returns-4
-returns-4 c =
-    let third = c .before .before in
-    let second = third .before .before in
-    lent-4 _ _ _ _ (second .before .before .if1 .left) (sym (second .before .reporters-ok .ensures) ∙ not-false _ (second .if2 .left))
-    (sym (third .before .currencies-ok .ensures) ∙ not-false _ (third .if3 .left)) (sym (c .before .sound-ledger .ensures) ∙ not-true _ (c .if4 .taken))
+unfolding lentRefusal
+returns-4 c = refuses _ (ordered (c .before .before) .same) (ap not (c .before .sound-ledger .ensures)) (c .if4 .taken)
+
+abbrev kept : tie.Else4 → Followed ℕ
+unfolding lentRefusal
+kept c = passes _ _ (ordered (c .before .before) .same) (ap not (c .before .sound-ledger .ensures)) (c .if4 .left)
 
 returns-5 : tie.Need-returns-5
-returns-5 c =
-    let third = c .before .before in
-    let second = third .before .before in
-    lent-none _ _ _ _ (second .before .before .if1 .left) (sym (second .before .reporters-ok .ensures) ∙ not-false _ (second .if2 .left))
-    (sym (third .before .currencies-ok .ensures) ∙ not-false _ (third .if3 .left)) (sym (c .before .sound-ledger .ensures) ∙ not-false _ (c .if4 .left))
+unfolding lentRefusal
+returns-5 c = sym (kept c .same)
 
 pub lent-refusal-spec : {M : Type 1} → statement M
 lent-refusal-spec =
     tie.close
-    (tie.spec
-    returns
-    (λ c κs. tt)
-    returns-2
-    (λ c κs. tt)
-    returns-3
-    (λ c κs. tt)
-    returns-4
-    returns-5)
+    (tie.spec returns (λ c κs. tt) returns-2 (λ c κs. tt) returns-3 (λ c κs. tt) returns-4 returns-5)
