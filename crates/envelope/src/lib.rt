@@ -266,7 +266,8 @@ fn open_body(s: &[u8], h: Parts) -> Opened
     };
     let word = h.word;
     let word_end = h.word_end;
-    if !text::same(&s[word..word_end], &s[last..s.len() - 1]) {
+    let last_end = s.len() - 1;
+    if !text::same(&s[word..word_end], &s[last..last_end]) {
         return Opened::Refused(10);
     }
     if RECORD_COUNT_LIMIT < b.records {
