@@ -27,7 +27,13 @@ use Rattle.calls.specs.FileSteps.{callsFrom, Admitted, Open}
 use Rattle.calls.proofs.RecordLaws.{body-admitted}
 
 module _ (reporters currencies file : List ℕ) (sound : Bool) where
-  -- what holds of a file to which none of refusals 1 to 4 applies
+  -- none of refusals 1 to 4 applies
+  pub lent-none : length file ≤ fileLimit → reportersOk reporters ≡ true → currenciesOk currencies ≡ true → sound ≡ true
+      → 0 ≡ lentRefusal reporters currencies file sound
+  unfolding lentRefusal
+  lent-none h a b d = rw (le-ltb _ _ h, a, b, d) refl
+
+  -- what holds of a file to which none of them applies
   pub record Lent : Type 0 where
     pub short : length file ≤ fileLimit
     pub listed : reportersOk reporters ≡ true
