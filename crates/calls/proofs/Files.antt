@@ -113,7 +113,8 @@ module _ (reporters currencies : List ℕ) where
   replies-over [] l h = refl
   replies-over (q ∷ qs) l h =
       let calls : List Call = requestCalls reporters currencies q in
-      let next : soundLedger (requestLedger reporters currencies q l) ≡ true = ap soundLedger (request-ledger q l h) ∙ after-sound reporters currencies calls l h in
+      let next : soundLedger (requestLedger reporters currencies q l) ≡ true
+      = ap soundLedger (request-ledger q l h) ∙ after-sound reporters currencies calls l h in
       rw (request-reply q l h, replies-over qs _ next) refl
 
   -- and that is never a refusal by 4

@@ -12,6 +12,7 @@ use lib.ListN.{length, drop, replicate}
 use Rattle.frame.specs.Every.{every, least}
 use Rattle.frame.specs.Parts.{part, put}
 use Rattle.frame.specs.Reply.{Reply, refused, accepted}
+use Rattle.frame.specs.Isolation as I
 use Rattle.frame.specs.Isolation.{Outcome, single, Isolated}
 use Rattle.frame.proofs.Isolation.{single-stranger, single-step}
 use Rattle.frame.proofs.PartLaws.{part-replicate, put-own}
@@ -92,6 +93,15 @@ zeros-part : part compartmentSize 0 emptyLedger ≡ zeros
 unfolding emptyLedger
 zeros-part = part-replicate compartmentSize 0 ledgerSize 0 (omega arith)
 
+-- a record in form is not refused there
+not-refused : (s : List ℕ) → recordForm s ≡ true → refusalOf workedReporters workedCurrencies (called workedSender s)
+    (I.soundLedger (rules workedReporters workedCurrencies) emptyLedger) ≡ 0
+unfolding nameUpTo all
+not-refused s form =
+    let call : Call = called workedSender s in
+    refusal-is workedReporters workedCurrencies call emptyLedger
+    (accepted-call workedReporters workedCurrencies call (soundLedger emptyLedger) worked-reporters worked-currencies empty-sound refl form)
+
 -- one that is in form and passes the sender check for row 0 is judged and booked on a compartment of zeros
 on-zeros : (s : List ℕ) → recordForm s ≡ true → rowOf (checkedOf workedReporters (called workedSender s)) ≡ 0
     → calledAlone s
@@ -99,12 +109,8 @@ on-zeros : (s : List ℕ) → recordForm s ≡ true → rowOf (checkedOf workedR
       reply = accepted (answerBytes (stepAnswer workedReporters workedCurrencies 0 s zeros));
       ledger = put compartmentSize 0 (stepCompartment workedReporters workedCurrencies 0 s zeros) emptyLedger;
     }
-unfolding nameUpTo all
 on-zeros s form row =
-    let call : Call = called workedSender s in
-    let free : refusalOf workedReporters workedCurrencies call (soundLedger emptyLedger) ≡ 0
-    = sym (accepted-call workedReporters workedCurrencies call (soundLedger emptyLedger) worked-reporters worked-currencies empty-sound refl form) in
-    single-step (rules workedReporters workedCurrencies) call emptyLedger 0 (refusal-is workedReporters workedCurrencies call emptyLedger (sym free)) row (omega arith)
+    single-step (rules workedReporters workedCurrencies) (called workedSender s) emptyLedger 0 (not-refused s form) row (omega arith)
     ∙ (λ i. record {
       reply = accepted (answerBytes (stepAnswer workedReporters workedCurrencies (row i) s (zeros-part i)));
       ledger = put compartmentSize 0 (stepCompartment workedReporters workedCurrencies (row i) s (zeros-part i)) emptyLedger;
@@ -161,13 +167,9 @@ module _ (room : ℕ) (one : answerSize ≤ room) where
 
 -- the call of the empty record: it fails at place 0, and is answered whatever the ledger holds
 blank-called : calledAlone [] ≡ record { reply = accepted blankAnswer; ledger = emptyLedger }
-unfolding blankAnswer nameUpTo recordForm all lowBytes checkedOf senderCheck senderTests isWhole semicolonsFrom added addedFrom holds answerOf codes codeAt
+unfolding blankAnswer recordForm all lowBytes checkedOf senderCheck senderTests isWhole semicolonsFrom added addedFrom holds answerOf codes codeAt
     statusAt trailingZeros answerBytes
-blank-called =
-    let call : Call = called workedSender [] in
-    let free : refusalOf workedReporters workedCurrencies call (soundLedger emptyLedger) ≡ 0
-    = sym (accepted-call workedReporters workedCurrencies call (soundLedger emptyLedger) worked-reporters worked-currencies empty-sound refl refl) in
-    single-stranger (rules workedReporters workedCurrencies) call emptyLedger (refusal-is workedReporters workedCurrencies call emptyLedger (sym free)) (omega arith)
+blank-called = single-stranger (rules workedReporters workedCurrencies) (called workedSender []) emptyLedger (not-refused [] refl) (omega arith)
 
 -- The file call: a body of one CR LF has no record; one of two holds one, answered 9001. Nothing is booked, and the rest of the buffer stays.
 pub worked-bodies : (a : List ℕ) → answerSize ≤ length a

@@ -102,7 +102,8 @@ pub file-kept : (reporters currencies file l a : List ℕ) (n : ℕ) → fileOf 
 unfolding fileOf carriedOut
 file-kept reporters currencies file l a n = go (readingOf reporters currencies file (length a) (soundLedger l))
   where
-    go : (w : Reply (List Call)) → carriedOut reporters currencies w l a .reply ≡ refused n → carriedOut reporters currencies w l a ≡ fileOutcome (refused n) l a
+    go : (w : Reply (List Call)) → carriedOut reporters currencies w l a .reply ≡ refused n
+        → carriedOut reporters currencies w l a ≡ fileOutcome (refused n) l a
     go (refused m) e = ap (λ (r : Reply ℕ). fileOutcome r l a) e
     go (accepted calls) e = let y : _≡_ {A = ℕ} 0 1 = cc in absurd (omega arith)
 

@@ -49,8 +49,8 @@ module _ (reporters : List ℕ) (money : List ℕ → Bool) (row : ℕ) (F : ℕ
 
   -- 60 passed: F39 is 1 to 16 capitals or digits
   pub number-passed : nameUpTo numberRoom (F 39) ≡ true
-  unfolding recordTests clientGroup tradeGroup instrumentGroup termsGroup capacityGroup derivativeGroup marksGroup clientTests tradeTests instrumentTests termsTests
-      capacityTests derivativeTests markTests
+  unfolding recordTests clientGroup tradeGroup instrumentGroup termsGroup capacityGroup derivativeGroup marksGroup clientTests tradeTests instrumentTests
+      termsTests capacityTests derivativeTests markTests
   number-passed = not-false _ (sym (behind (underlyingGroup F) (marksGroup F) 7 1 (underlying-length F)) ∙ none 53)
 
 module _ (c f16 f39 : List ℕ) (passed : bookingOf c f16 f39 .failed .bits ≡ 0) where

@@ -41,8 +41,9 @@ next-group ts us s k n e = subst (λ (m : ℕ). addedFrom (addedFrom s k ts) (k 
 
 module _ (reporters : List ℕ) (money : List ℕ → Bool) (row : ℕ) (F : ℕ → List ℕ) where
   groups-added :
-      addedFrom (addedFrom (addedFrom (addedFrom (addedFrom (addedFrom (addedFrom (addedFrom noFailure 7 (clientGroup F)) 18 (tradeGroup F)) 25 (instrumentGroup F))
-      31 (termsGroup (money (F 21)) (money (F 24)) F)) 42 (capacityGroup reporters row F)) 47 (derivativeGroup (money (F 21)) F)) 52 (underlyingGroup F)) 59 (marksGroup F)
+      addedFrom (addedFrom (addedFrom (addedFrom (addedFrom (addedFrom (addedFrom (addedFrom noFailure
+      7 (clientGroup F)) 18 (tradeGroup F)) 25 (instrumentGroup F)) 31 (termsGroup (money (F 21)) (money (F 24)) F)) 42 (capacityGroup reporters row F))
+      47 (derivativeGroup (money (F 21)) F)) 52 (underlyingGroup F)) 59 (marksGroup F)
       ≡ recordFailures reporters money row F
   unfolding recordFailures recordTests clientGroup tradeGroup instrumentGroup termsGroup capacityGroup derivativeGroup
       clientTests tradeTests instrumentTests termsTests capacityTests derivativeTests

@@ -145,7 +145,9 @@ pub fn judge<'a>(
     record: &'a [u8],
     stops: &'a [usize; 39],
 ) -> Failures
-    ensures { λ r. ⌜ r ≡ recordFailures (now (reporters .entry)) (foundMoney (now (currencies .entry))) row (fieldBy (now («record» .entry)) (now (stops .entry))) ⌝ }
+    ensures { λ r.
+        ⌜ r ≡ recordFailures (now (reporters .entry)) (foundMoney (now (currencies .entry))) row
+        (fieldBy (now («record» .entry)) (now (stops .entry))) ⌝ }
 {
     let money21 = tables::is_money(currencies, part(record, stops, 21));
     let money24 = tables::is_money(currencies, part(record, stops, 24));

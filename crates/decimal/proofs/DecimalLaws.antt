@@ -80,8 +80,8 @@ pub whole-no : (m n : ℕ) (w : List ℕ) → digitsUpTo m w ≡ false → Malfo
 unfolding wholeOnly
 whole-no m n w e = rw e refl
 
-pub both-yes : (m n : ℕ) (w f : List ℕ) {r q : ℕ} → digitsUpTo m w && digitsUpTo n f ≡ true → r ≡ digitsValue w * 10 ^ n → q ≡ digitsValue f * 10 ^ (n - length f)
-    → Value (r + q) ≡ wholeAndPart m n w f
+pub both-yes : (m n : ℕ) (w f : List ℕ) {r q : ℕ} → digitsUpTo m w && digitsUpTo n f ≡ true
+    → r ≡ digitsValue w * 10 ^ n → q ≡ digitsValue f * 10 ^ (n - length f) → Value (r + q) ≡ wholeAndPart m n w f
 unfolding wholeAndPart
 both-yes m n w f e p q = rw (e, p, q) refl
 

@@ -5,7 +5,8 @@ ghost use Prim.Native.Nat.{_+_, _^_, _≤_, _<_};
 ghost use lib.ListN.{length, getD};
 ghost use Rattle.fields.specs.Forms.{letter};
 ghost use Rattle.text.specs.Part.{Lies};
-ghost use Rattle.fields.specs.Fields.{semicolonsFrom, isWhole, Extended, stopsOf, isWholeIndex, emptyPlace, placeIn, bytesAt, fieldBy, fieldPlace, fieldOf};
+ghost use Rattle.fields.specs.Fields.{semicolonsFrom, isWhole, Extended, stopsOf, isWholeIndex, emptyPlace};
+ghost use Rattle.fields.specs.Fields.{placeIn, bytesAt, fieldBy, fieldPlace, fieldOf};
 
 // The bytes of a record that are searched for semicolons at once.
 const BLOCK_SIZE: usize = 16;

@@ -1,3 +1,4 @@
+use mathlib.Core.Path.{refl}
 use Rattle.checks.specs.Record.{derivativeGroup}
 use borrow.Author.Needs.{needs}
 use Rattle.checks.proofs.add_derivative.Statement.{statement}
@@ -12,7 +13,7 @@ returns c =
     let f29 = f30 .before in
     let f21 = f29 .before in
     rw (c .add-from .ensures, judged .judge-derivative .ensures)
-    (rw (f21 .part .ensures .bytes, f29 .part2 .ensures .bytes, f30 .part3 .ensures .bytes, f32 .part4 .ensures .bytes))
+    (rw (f21 .part .ensures .bytes, f29 .part2 .ensures .bytes, f30 .part3 .ensures .bytes, f32 .part4 .ensures .bytes) refl)
 
 pub add-derivative-spec : {M : Type 1} → statement M
 add-derivative-spec =

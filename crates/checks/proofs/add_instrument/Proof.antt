@@ -1,3 +1,4 @@
+use mathlib.Core.Path.{refl}
 use Rattle.checks.specs.Record.{instrumentGroup}
 use borrow.Author.Needs.{needs}
 use Rattle.checks.proofs.add_instrument.Statement.{statement}
@@ -9,7 +10,7 @@ returns c =
     let judged = c .before .before in
     let f20 = judged .before in
     let f19 = f20 .before in
-    rw (c .add-from .ensures, judged .judge-instrument .ensures, f19 .part .ensures .bytes, f20 .part2 .ensures .bytes)
+    rw (c .add-from .ensures, judged .judge-instrument .ensures, f19 .part .ensures .bytes, f20 .part2 .ensures .bytes) refl
 
 pub add-instrument-spec : {M : Type 1} → statement M
 add-instrument-spec =

@@ -1,3 +1,4 @@
+use mathlib.Core.Path.{refl}
 use Rattle.checks.specs.Record.{marksGroup}
 use borrow.Author.Needs.{needs}
 use Rattle.checks.proofs.add_marks.Statement.{statement}
@@ -9,7 +10,7 @@ returns c =
     let judged = c .before .before in
     let f39 = judged .before in
     let f38 = f39 .before in
-    rw (c .add-from .ensures, judged .judge-marks .ensures, f38 .part .ensures .bytes, f39 .part2 .ensures .bytes)
+    rw (c .add-from .ensures, judged .judge-marks .ensures, f38 .part .ensures .bytes, f39 .part2 .ensures .bytes) refl
 
 pub add-marks-spec : {M : Type 1} → statement M
 add-marks-spec =

@@ -1,3 +1,4 @@
+use mathlib.Core.Path.{refl}
 use Rattle.checks.specs.Record.{tradeGroup}
 use borrow.Author.Needs.{needs}
 use Rattle.checks.proofs.add_trade.Statement.{statement}
@@ -16,7 +17,7 @@ returns c =
     let f7 = f8 .before in
     rw (c .add-from .ensures, judged .judge-trade .ensures)
     (rw (f7 .part .ensures .bytes, f8 .part2 .ensures .bytes, f9 .part3 .ensures .bytes, f14 .part4 .ensures .bytes)
-    (rw (f15 .part5 .ensures .bytes, f18 .part6 .ensures .bytes, f19 .part7 .ensures .bytes)))
+    (rw (f15 .part5 .ensures .bytes, f18 .part6 .ensures .bytes, f19 .part7 .ensures .bytes) refl))
 
 pub add-trade-spec : {M : Type 1} → statement M
 add-trade-spec =

@@ -1,3 +1,4 @@
+use mathlib.Core.Path.{refl}
 use Rattle.checks.specs.Record.{underlyingGroup}
 use borrow.Author.Needs.{needs}
 use Rattle.checks.proofs.add_underlying.Statement.{statement}
@@ -10,7 +11,7 @@ returns c =
     let f33 = judged .before in
     let f21 = f33 .before in
     let f19 = f21 .before in
-    rw (c .add-from .ensures, judged .judge .ensures, f19 .part .ensures .bytes, f21 .part2 .ensures .bytes, f33 .part3 .ensures .bytes)
+    rw (c .add-from .ensures, judged .judge .ensures, f19 .part .ensures .bytes, f21 .part2 .ensures .bytes, f33 .part3 .ensures .bytes) refl
 
 pub add-underlying-spec : {M : Type 1} → statement M
 add-underlying-spec =

@@ -1,5 +1,5 @@
 use mathlib.Core.Bool.{_&&_}
-use mathlib.Core.Path.{_≡_, _∙_, sym}
+use mathlib.Core.Path.{_≡_, refl, _∙_, sym}
 use native.Mathlib.Omega.{arith}
 use Rattle.envelope.specs.Envelope.{Ordered, envelopeOf, dateStage, receiverStage}
 use Rattle.envelope.proofs.OpenedLaws.{head-read}
@@ -10,7 +10,7 @@ use Rattle.envelope.proofs.open.Tie as tie
 
 returns : tie.Need-returns
 unfolding envelopeOf
-returns c = rw (sym (c .before .before .read-head .ensures) ∙ c .enum-told .given .1)
+returns c = rw (sym (c .before .before .read-head .ensures) ∙ c .enum-told .given .1) refl
 
 -- a head that was read: the stages that are left, and that its parts lie one after another
 abbrev start : tie.After-known-told → tie.Start

@@ -1,18 +1,18 @@
 use Prim.Native.Nat.{_<_}
-use mathlib.Core.Path.{_≡_, _∙_, sym}
+use mathlib.Core.Path.{_≡_, refl, _∙_, sym}
 use native.Mathlib.Omega.{arith}
 use borrow.Author.Tests.{lt-ltb, le-ltb}
 use lib.ListN.{length}
 use Rattle.envelope.specs.Envelope.{bodyStage, tailStage, wordStage, countStage}
 use Rattle.envelope.proofs.OpenedLaws.{body-bounded, tail-placed}
-use Rattle.envelope.proofs.StageLaws.{holds, fails}
+use Rattle.envelope.proofs.StageLaws.{holds, fails, passes, refuses}
 use borrow.Author.Needs.{needs}
 use Rattle.envelope.proofs.open_body.Statement.{statement}
 use Rattle.envelope.proofs.open_body.Tie as tie
 
 returns : tie.Need-returns
 unfolding bodyStage
-returns c = rw (sym (c .before .before .read-body .ensures) ∙ c .enum-told .given .1)
+returns c = rw (sym (c .before .before .read-body .ensures) ∙ c .enum-told .given .1) refl
 
 -- the body was counted
 abbrev start : tie.After-known-told → tie.Start
@@ -24,7 +24,7 @@ unfolding bodyStage
 counted c = rw (sym (c .before .before .before .read-body .ensures) ∙ c .before .b .given .1)
 
 returns-2 : tie.Need-returns-2
-returns-2 c = rw (counted (c .before .before .before), sym (c .before .before .read-tail .ensures) ∙ c .enum-told2 .given .1)
+returns-2 c = rw (counted (c .before .before .before), sym (c .before .before .read-tail .ensures) ∙ c .enum-told2 .given .1) refl
 
 -- the tail was read, and its word begins within the file
 abbrev body : tie.After-known-told2 → tie.After-known-told
@@ -51,10 +51,10 @@ agreed : (c : tie.Else1) → let a = start (body (tail c)) .args in
 agreed c = holds _ (read (tail c)) (c .before .same .ensures) (c .if1 .left)
 
 returns-4 : tie.Need-returns-4
-returns-4 c = rw (agreed (c .before .before), lt-ltb _ _ (c .if2 .taken))
+returns-4 c = refuses _ (agreed (c .before .before)) refl (lt-ltb _ _ (c .if2 .taken))
 
 returns-5 : tie.Need-returns-5
-returns-5 c = rw (agreed (c .before .before .before), le-ltb _ _ (c .before .if2 .left))
+returns-5 c = sym (passes _ _ (agreed (c .before .before .before)) refl (le-ltb _ _ (c .before .if2 .left)) .same)
 
 pub open-body-spec : {M : Type 1} → statement M
 open-body-spec =

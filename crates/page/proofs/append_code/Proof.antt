@@ -1,4 +1,4 @@
-use mathlib.Core.Path.{_∙_}
+use mathlib.Core.Path.{refl, _∙_}
 use Rattle.page.specs.Number.{codeText}
 use borrow.Author.Needs.{needs}
 use Rattle.page.proofs.append_code.Statement.{statement}
@@ -11,7 +11,7 @@ returns c =
     let tens = ones .before in
     let hundreds = tens .before in
     c .before .before .append .ensures
-    ∙ rw (hundreds .before .digit .ensures, hundreds .digit2 .ensures, tens .digit3 .ensures, ones .digit4 .ensures)
+    ∙ rw (hundreds .before .digit .ensures, hundreds .digit2 .ensures, tens .digit3 .ensures, ones .digit4 .ensures) refl
 
 pub append-code-spec : {M : Type 1} → statement M
 append-code-spec =

@@ -1,3 +1,4 @@
+use mathlib.Core.Path.{refl}
 use Rattle.page.proofs.PageLaws.{appended-both}
 use Rattle.results.specs.Results.{acceptedText}
 use borrow.Author.Needs.{needs}
@@ -15,7 +16,7 @@ returns c =
     let number = feed .before .before .before .before .before in
     let records = number .before .before .before .before in
     rw (c .before .before .append4 .ensures, count .append-number2 .ensures, count .before .booked .ensures, booked .append3 .ensures)
-    (rw (lines .append-lines .ensures, feed .append2 .ensures, number .append-number .ensures, records .append .ensures) (simp appended-both))
+    (rw (lines .append-lines .ensures, feed .append2 .ensures, number .append-number .ensures, records .append .ensures) (simp appended-both refl))
 
 pub accepted-spec : {M : Type 1} → statement M
 accepted-spec =

@@ -1,3 +1,4 @@
+use mathlib.Core.Path.{refl}
 use Rattle.page.proofs.PageLaws.{appended-both, appended-length}
 use Rattle.results.specs.Results.{lineText}
 use borrow.Author.Needs.{needs}
@@ -17,7 +18,7 @@ returns c =
     let number = first .before .before .before .before .before in
     rw (c .before .before .append4 .ensures, row .append-row .ensures, third .append3 .ensures, count .append-number2 .ensures)
     (rw (second .append2 .ensures, code .append-code .ensures, first .append .ensures, number .append-number .ensures, count .before .count .ensures)
-    (simp appended-both))
+    (simp appended-both refl))
 
 same-length : tie.Need-same-length
 same-length c = appended-length _ _ (returns c)

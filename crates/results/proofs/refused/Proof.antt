@@ -1,3 +1,4 @@
+use mathlib.Core.Path.{refl}
 use Rattle.page.proofs.PageLaws.{appended-both}
 use Rattle.results.specs.Results.{refusedText}
 use borrow.Author.Needs.{needs}
@@ -10,7 +11,7 @@ unfolding refusedText
 returns c =
     let number = c .before .before .before .before .before .before .before in
     let word = number .before .before .before .before in
-    rw (c .before .before .append2 .ensures, number .append-number .ensures, word .append .ensures) (simp appended-both)
+    rw (c .before .before .append2 .ensures, number .append-number .ensures, word .append .ensures) (simp appended-both refl)
 
 pub refused-spec : {M : Type 1} → statement M
 refused-spec =

@@ -9,7 +9,8 @@ returns : tie.Need-returns
 unfolding mailboxForm
 returns c =
     let named = c .before .before .before in
-    rw (named .is-name .ensures, c .all .ensures, c .before .rest .ensures .bytes, c .before .before .mailbox-bytes .ensures, named .before .mailbox-of .ensures) refl
+    let length = c .before .before in
+    rw (named .is-name .ensures, c .all .ensures, c .before .rest .ensures .bytes, length .mailbox-bytes .ensures, named .before .mailbox-of .ensures) refl
 
 pub is-mailbox-spec : {M : Type 1} → statement M
 is-mailbox-spec =

@@ -11,7 +11,7 @@ use Rattle.calls.proofs.filing.lent_refusal.Tie as tie
 -- The refusals in their order, followed as far as their tests fail.
 returns : tie.Need-returns
 unfolding lentRefusal
-returns c = refuses _ refl refl (lt-ltb _ _ (c .if1 .taken))
+returns c = rw (lt-ltb _ _ (c .if1 .taken)) refl
 
 abbrev short : tie.Else1 → Followed ℕ
 unfolding lentRefusal
