@@ -26,6 +26,13 @@ pub and-assoc : (a b c : Bool) → a && (b && c) ≡ a && b && c
 and-assoc true b c = refl
 and-assoc false b c = refl
 
+-- what code says that tests a, and b only where a holds
+pub and-goes : (a : Bool) {b r : Bool} → a ≡ true → r ≡ b → r ≡ a && b
+and-goes a h e = rw h e
+
+pub and-stops : (a b : Bool) → a ≡ false → a ≡ a && b
+and-stops a b h = rw h
+
 pub or-false : (a : Bool) → (a || false) ≡ a
 or-false true = refl
 or-false false = refl

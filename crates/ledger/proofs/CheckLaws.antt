@@ -12,7 +12,7 @@ use lib.ListN.{length, take, drop, drop-of-length-le}
 use lib.Seq.{drop-drop}
 use Rattle.frame.specs.Every.{every}
 use Rattle.frame.specs.Parts.{part}
-use Rattle.frame.proofs.BoolLaws.{and-assoc, and-false, and-intro, and-left, and-right, and-true}
+use Rattle.frame.proofs.BoolLaws.{and-assoc, and-false, and-goes, and-intro, and-left, and-right, and-stops, and-true}
 use Rattle.frame.proofs.EveryLaws.{every-at, every-intro}
 use Rattle.text.specs.Class.{isZero}
 use Rattle.text.specs.Bytes.{all}
@@ -23,14 +23,7 @@ use Rattle.ledger.specs.Sound.{Rows, rowsOf, rowCount, compartmentSize, 
 use Rattle.ledger.proofs.FormLaws.{both-ways, same-words}
 use Rattle.ledger.proofs.SoundLaws.{row-length, filled-row, earlier-filled}
 
--- what code says that tests a, and b only where a holds
-pub and-goes : (a : Bool) {b r : Bool} → a ≡ true → r ≡ b → r ≡ a && b
-and-goes a h e = rw h e
-
-pub and-stops : (a b : Bool) → a ≡ false → a ≡ a && b
-and-stops a b h = rw h
-
--- the same, where the second is tested first
+-- what code says that tests b, and a only where b holds
 pub and-comes : (a b : Bool) {r : Bool} → b ≡ true → r ≡ a → r ≡ a && b
 and-comes a b h e = rw (h, and-true) e
 

@@ -2,7 +2,7 @@ use borrow.Author.Tests.{eq-eqb, ne-eqb}
 use Prim.Native.Nat.{ℕ}
 use lib.Dec.{eqb}
 use mathlib.Core.Path.{ap, sym, _∙_}
-use Rattle.ledger.proofs.CheckLaws.{and-goes, and-stops}
+use Rattle.frame.proofs.BoolLaws.{and-goes, and-stops}
 use Rattle.ledger.proofs.has_words.Statement.{statement}
 use Rattle.ledger.proofs.has_words.Tie as tie
 

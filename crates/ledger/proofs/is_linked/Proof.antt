@@ -2,8 +2,8 @@ use borrow.Author.Needs.{needs}
 use mathlib.Core.Path.{_∙_}
 use borrow.Author.Tests.{lt-ltb, le-ltb, ltb-true}
 use lib.Dec.{ltb}
-use Rattle.frame.proofs.BoolLaws.{and-right}
-use Rattle.ledger.proofs.CheckLaws.{and-goes, and-stops, live-linked, cancellation-linked, cancelled-linked}
+use Rattle.frame.proofs.BoolLaws.{and-right, and-goes, and-stops}
+use Rattle.ledger.proofs.CheckLaws.{live-linked, cancellation-linked, cancelled-linked}
 use Rattle.ledger.proofs.is_linked.Statement.{statement}
 use Rattle.ledger.proofs.is_linked.Tie as tie
 
