@@ -1,12 +1,13 @@
 // Books report.edi into ledger.dat, by reporters.ref and currency.ref, all in the working directory. Saves the new ledger as ledger.new, then
 // prints what became of each record.
-mod load;
+ghost use Rattle.io.specs.Counts.{Counts};
+
 mod save;
 
 use calls::filing::Filed;
+use disk::Loaded;
 use libc::STDERR_FILENO;
 use libc::STDOUT_FILENO;
-use load::load;
 
 // Room for a report, for 16 reporters, 512 currencies and a ledger, each with a byte more, so that what is too long is refused, and never cut.
 const REPORT_ROOM: usize = 32769;
@@ -27,6 +28,17 @@ fn complain(doing: &[u8], path: &[u8]) {
     io::write_all(STDERR_FILENO, b"nothing was booked: ");
     io::write_all(STDERR_FILENO, doing);
     os::fail(path);
+}
+
+// Reads a file, and complains where it cannot be read.
+fn load(path: &[u8], buffer: &mut [u8]) -> Loaded
+    ensures { λ r. ⌜ Counts (r .bytes) (now (buffer .exit)) ⌝ }
+{
+    let loaded = disk::load(path, buffer);
+    if !loaded.readable {
+        complain(b"cannot read ", path);
+    }
+    loaded
 }
 
 // Prints a page up to the end of its text.
