@@ -1,0 +1,71 @@
+-- Laws of the parts of a line: where they lie, that the place behind a byte is further on, and which byte two digits are.
+-- Assumes nothing.
+use Prim.Native.Nat.{ℕ, suc, _+_, _-_, _*_, _<_, _≤_}
+use mathlib.Core.Bool.{Bool, true, false, cond}
+use mathlib.Core.List.{List}
+use mathlib.Core.Path.{_≡_, refl, ap, _∙_}
+use native.Mathlib.Nat.{add-assoc}
+use native.Mathlib.Numerals.{add-one}
+use native.Mathlib.Omega.{arith}
+use borrow.Author.Tests.{le-leb, lt-leb, leb-true, leb-false}
+use denote.Ref.{RefT, now, ptr}
+use lib.Dec.{leb}
+use lib.ListN.{length, getD, take, drop, length-drop}
+use lib.Seq.{drop-drop}
+use Rattle.text.specs.Bytes.{positionOf}
+use Rattle.text.specs.Part.{Lies, restStart}
+use Rattle.text.proofs.ByteLaws.{position-le}
+use Rattle.words.specs.Words.{beforeFirst, behindFirst, tailStart, nextPlace, digitValue, byteOf}
+
+-- what stands before the first byte b is the front up to that byte
+pub lies-before : (b : ℕ) {s r : RefT (List ℕ)} {k : ℕ} → k ≡ positionOf b (now s) → Lies s 0 (take k (now s)) r → Lies s 0 (beforeFirst b (now s)) r
+unfolding beforeFirst
+lies-before b e front = rw e at front
+
+-- what follows the first k bytes and a byte more reaches to the end
+rest-of-rest : (k : ℕ) (s : List ℕ) → k ≤ length s → restStart k s + restStart 1 (drop k s) ≡ tailStart s (drop (suc k) s)
+rest-of-rest k s h = rw (le-leb _ _ h) (go (leb 1 (length (drop k s))) refl)
+  where
+    go : (t : Bool) → leb 1 (length (drop k s)) ≡ t → k + cond t 1 0 ≡ tailStart s (drop (suc k) s)
+    go true e = omega (arith, leb-true 1 (length (drop k s)) e, length-drop k s, length-drop (suc k) s)
+    go false e = omega (arith, leb-false 1 (length (drop k s)) e, length-drop k s, length-drop (suc k) s)
+
+-- what follows the first byte b is the rest, less a byte, of what that byte begins
+pub lies-behind : (b : ℕ) {s t r : RefT (List ℕ)} {k : ℕ} → k ≡ positionOf b (now s) → Lies s (restStart k (now s)) (drop k (now s)) t
+    → Lies t (restStart 1 (now t)) (drop 1 (now t)) r → Lies s (tailStart (now s) (behindFirst b (now s))) (behindFirst b (now s)) r
+unfolding behindFirst
+lies-behind b {s} {t} {r} {k} e begun left =
+    let p = positionOf b (now s) in
+    let place : restStart k (now s) + restStart 1 (now t) ≡ tailStart (now s) (drop (suc p) (now s))
+    = rw (begun .bytes, e) (rest-of-rest p (now s) (position-le b (now s))) in
+    record {
+      bytes = left .bytes ∙ rw (begun .bytes, e, drop-drop, add-one) refl;
+      address = left .address ∙ rw (begun .address) (ap (λ (n : ℕ). (ptr s .0, n)) (add-assoc _ _ _ ∙ ap (λ (n : ℕ). ptr s .1 + n) place));
+    }
+
+module _ (b at : ℕ) (s : List ℕ) where
+  length-behind : length (behindFirst b (drop at s)) ≡ (length s - at) - suc (positionOf b (drop at s))
+  unfolding behindFirst
+  length-behind = simp length-drop
+
+  -- the place behind a byte is within the text, and behind the place from which the byte is looked for
+  pub next-within : nextPlace b at s ≤ length s
+  unfolding nextPlace
+  next-within = omega arith
+
+  pub next-more : at < length s → at < nextPlace b at s
+  unfolding nextPlace
+  next-more h = omega (arith, length-behind)
+
+  -- what stands behind a byte is no longer than the text
+  pub behind-within : length (behindFirst b (drop at s)) ≤ length s
+  behind-within = omega (arith, length-behind)
+
+-- the byte of two digits that are there, and of fewer
+pub byte-there : (s : List ℕ) → 2 ≤ length s → digitValue (getD s 0 0) * 16 + digitValue (getD s 1 0) ≡ byteOf s
+unfolding byteOf
+byte-there s h = rw (le-leb 2 (length s) h) refl
+
+pub byte-short : (s : List ℕ) → length s < 2 → 0 ≡ byteOf s
+unfolding byteOf
+byte-short s h = rw (lt-leb 2 (length s) h) refl
