@@ -1,10 +1,10 @@
 // A case: a name, and edits to `file`, `reporters`, `currencies`, `ledger` and `answers`, as they are in data/ and the pattern.
 use crate::checksum::adler;
 use crate::edit::edited;
-use crate::parts::before;
-use crate::parts::behind;
 use calls::filing::Filed;
 use libc::STDOUT_FILENO;
+use words::before;
+use words::behind;
 
 // Prints the number of the refusal, or the count of records.
 fn print_filed(filed: Filed) {

@@ -4,10 +4,10 @@ ghost use Prim.Native.Nat.{_≤_};
 ghost use lib.ListN.{length};
 ghost use Rattle.io.specs.Counts.{Counts};
 use crate::parts::append_piece;
-use crate::parts::before;
-use crate::parts::behind;
-use crate::parts::number;
 use crate::parts::place;
+use words::before;
+use words::behind;
+use words::number;
 
 // Writes a piece so many times.
 fn append_times(out: &mut [u8], at: usize, times: usize, piece: &[u8]) -> usize {
@@ -56,13 +56,8 @@ pub(crate) fn edited(buffer: &mut [u8], object: &[u8], name: &[u8], tokens: &[u8
     let mut n = page::append(buffer, 0, object);
     let mut at = 0;
     while at < tokens.len() {
-        let rest = &tokens[at..];
-        let end = text::position(rest, b' ');
-        n = apply(buffer, n, name, text::front(rest, end));
-        if rest.len() <= end {
-            return n;
-        }
-        at = at + end + 1;
+        n = apply(buffer, n, name, before(text::rest(tokens, at), b' '));
+        at = words::next(tokens, at, b' ');
     }
     n
 }

@@ -1,27 +1,13 @@
 // Runs whole files through the file call. A case is a line: a name, and edits to a sample; a line is printed for each.
-ghost use Rattle.io.specs.Counts.{Counts};
-
 mod case;
 mod checksum;
 mod edit;
 mod parts;
 
+use disk::load_or_fail;
+
 // The bytes of the answer buffer, where a case says nothing else: as many as 1,025 answers take.
 const ANSWER_ROOM: usize = 16400;
-
-// Reads a file into a buffer, and answers how many bytes of it.
-fn load(path: &[u8], buffer: &mut [u8]) -> usize
-    ensures { λ r. ⌜ Counts r (now (buffer .exit)) ⌝ }
-{
-    let fd = os::open_read(path);
-    if fd < 0 {
-        os::fail(path);
-        return 0;
-    }
-    let n = io::read_full(fd, buffer);
-    libc::close(fd);
-    n
-}
 
 // Fills a buffer with a pattern, so that a byte that is cleared or moved shows.
 fn fill(buffer: &mut [u8]) {
@@ -43,20 +29,15 @@ fn lines<'a>(
 ) {
     let mut at = 0;
     while at < cases.len() {
-        let rest = &cases[at..];
-        let end = text::position(rest, b'\n');
-        if rest.len() <= end {
-            return;
-        }
         case::run(
-            text::front(rest, end),
+            words::before(text::rest(cases, at), b'\n'),
             file,
             reporters,
             currencies,
             book,
             answers,
         );
-        at = at + end + 1;
+        at = words::next(cases, at, b'\n');
     }
 }
 
@@ -70,7 +51,7 @@ fn run<'a>(
     answers: &'a [u8],
 ) {
     let mut cases = io::large_buffer();
-    let n = load(name, &mut cases);
+    let n = load_or_fail(name, &mut cases);
     lines(
         text::front(&cases, n),
         file,
@@ -105,10 +86,10 @@ fn main() {
     let mut list = [0u8; 1536];
     let mut book = [0u8; 32768];
     let mut answers = [0u8; ANSWER_ROOM];
-    let n = load(b"report.edi", &mut file);
-    let rows = load(b"reporters.ref", &mut table);
-    let codes = load(b"currency.ref", &mut list);
-    let m = load(b"ledger.dat", &mut book);
+    let n = load_or_fail(b"report.edi", &mut file);
+    let rows = load_or_fail(b"reporters.ref", &mut table);
+    let codes = load_or_fail(b"currency.ref", &mut list);
+    let m = load_or_fail(b"ledger.dat", &mut book);
     fill(&mut answers);
     run_all(
         text::front(&file, n),

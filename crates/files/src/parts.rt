@@ -1,52 +1,11 @@
-// The parts of a line, and the numbers and bytes that they stand for.
-ghost use Prim.Native.Nat.{_<_};
-use decimal::Decimal;
-
-// The text before the first byte b.
-pub(crate) fn before(s: &[u8], b: u8) -> &[u8] {
-    text::front(s, text::position(s, b))
-}
-
-// The text behind the first byte b.
-pub(crate) fn behind(s: &[u8], b: u8) -> &[u8] {
-    text::rest(text::rest(s, text::position(s, b)), 1)
-}
-
-// A number of up to nine digits; 0 where it is none.
-pub(crate) fn number(s: &[u8]) -> usize {
-    match decimal::read(s, 9, 0) {
-        Decimal::Value(n) => (n % 1000000000) as usize,
-        Decimal::Malformed => 0,
-    }
-}
-
-// The value of a hexadecimal digit.
-fn nibble(b: u8) -> u8
-    ensures { λ r. ⌜ r < 16 ⌝ }
-{
-    if b'a' <= b {
-        return (b - b'a' + 10) % 16;
-    }
-    if b'0' <= b {
-        return (b - b'0') % 16;
-    }
-    0
-}
-
-// The byte of two hexadecimal digits.
-fn hex_byte(hex: &[u8]) -> u8 {
-    if hex.len() < 2 {
-        return 0;
-    }
-    nibble(hex[0]) * 16 + nibble(hex[1])
-}
+// The pieces and places that an edit names.
 
 // Writes the bytes that hexadecimal digits give, as far as there is room, and answers where they end.
 fn append_hex(out: &mut [u8], at: usize, hex: &[u8]) -> usize {
     let mut end = at;
     let mut i = 0;
     while i < hex.len() / 2 {
-        let byte = [hex_byte(text::rest(hex, i * 2))];
+        let byte = [words::hex_byte(text::rest(hex, i * 2))];
         end = page::append(out, end, &byte);
         i += 1;
     }
@@ -76,7 +35,7 @@ fn find(s: &[u8], t: &[u8]) -> usize {
 // The place in s that a text names: its number, or where it stands.
 pub(crate) fn place(s: &[u8], name: &[u8]) -> usize {
     if text::all(text::Class::Digit, name) {
-        return number(name);
+        return words::number(name);
     }
     find(s, name)
 }

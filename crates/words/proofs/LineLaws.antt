@@ -1,4 +1,4 @@
--- Laws of the parts of a line: where they lie, that the place behind a byte is further on, and which byte two digits are.
+-- Laws of the parts of a line: where they lie, that what is left grows less, and which byte two digits are.
 -- Assumes nothing.
 use Prim.Native.Nat.{ℕ, suc, _+_, _-_, _*_, _<_, _≤_}
 use mathlib.Core.Bool.{Bool, true, false, cond}
@@ -48,18 +48,14 @@ module _ (b at : ℕ) (s : List ℕ) where
   unfolding behindFirst
   length-behind = simp length-drop
 
-  -- the place behind a byte is within the text, and behind the place from which the byte is looked for
-  pub next-within : nextPlace b at s ≤ length s
-  unfolding nextPlace
-  next-within = omega arith
-
-  pub next-more : at < length s → at < nextPlace b at s
-  unfolding nextPlace
-  next-more h = omega (arith, length-behind)
-
   -- what stands behind a byte is no longer than the text
   pub behind-within : length (behindFirst b (drop at s)) ≤ length s
   behind-within = omega (arith, length-behind)
+
+-- less is left from the place behind a byte than from the place from which the byte is looked for
+pub next-less : (b : ℕ) (s : List ℕ) {at r : ℕ} → r ≡ nextPlace b at s → at < length s → length s - r < length s - at
+unfolding nextPlace
+next-less b s {at} e h = omega (arith, e, length-behind b at s)
 
 -- the byte of two digits that are there, and of fewer
 pub byte-there : (s : List ℕ) → 2 ≤ length s → digitValue (getD s 0 0) * 16 + digitValue (getD s 1 0) ≡ byteOf s

@@ -14,9 +14,6 @@ abbrev μ-loop : tie.MeasureT-loop
 loop-holds : tie.Need-loop-holds Inv-loop μ-loop
 loop-holds c = search needs
 
-append-piece-requires : tie.Need-append-piece-requires Inv-loop μ-loop
-append-piece-requires c κs = tt
-
 add-k : tie.Need-add-k Inv-loop μ-loop
 add-k c = search needs
 
@@ -39,7 +36,7 @@ append-times-spec =
     Inv-loop
     μ-loop
     loop-holds
-    append-piece-requires
+    (λ c κs. tt)
     add-k
     loop-less
     loop-again

@@ -17,17 +17,8 @@ loop-holds c = search needs
 mul-rest : tie.Need-mul-rest Inv-loop μ-loop
 mul-rest c = search needs
 
-rest-requires : tie.Need-rest-requires Inv-loop μ-loop
-rest-requires c κs = tt
-
-hex-byte-requires : tie.Need-hex-byte-requires Inv-loop μ-loop
-hex-byte-requires c κs = tt
-
 slice-aggregate-append : tie.Need-slice-aggregate-append Inv-loop μ-loop
 slice-aggregate-append c = search needs
-
-append-requires : tie.Need-append-requires Inv-loop μ-loop
-append-requires c κs = tt
 
 add-i : tie.Need-add-i Inv-loop μ-loop
 add-i c = search needs
@@ -52,10 +43,10 @@ append-hex-spec =
     μ-loop
     loop-holds
     mul-rest
-    rest-requires
-    hex-byte-requires
+    (λ c κs. tt)
+    (λ c κs. tt)
     slice-aggregate-append
-    append-requires
+    (λ c κs. tt)
     add-i
     loop-less
     loop-again
