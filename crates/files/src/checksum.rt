@@ -1,4 +1,5 @@
 // Adler-32, the checksum of RFC 1950.
+
 // The largest prime number below 65,536.
 const BASE: u64 = 65521;
 

@@ -1,6 +1,6 @@
 // Sixteen banks: 10000 to 10015, AAAAAT00XXX to AAAAAT15XXX, each with a mailbox of its own but for the second, which has the first's.
-use crate::piece::append;
 use crate::piece::append_digits;
+use page::append;
 
 pub(crate) const BANKS: usize = 16;
 

@@ -1,15 +1,14 @@
 // A list of drawn calls on one ledger, and each bank's lone run, from a ledger of zeros.
 use crate::banks::BANKS;
 use crate::drawn::Call;
+use answer::ANSWER_SIZE;
 use answer::Answer;
 use calls::Replied;
+use ledger::COMPARTMENT_SIZE;
 use libc::STDOUT_FILENO;
 
+// How many calls are drawn.
 const CALLS: usize = 4096;
-
-const ANSWER_SIZE: usize = 16;
-
-const COMPARTMENT_SIZE: usize = 2048;
 
 // The statuses of answers, with one more, for a call that is refused.
 const BOOKED: u8 = 0;
@@ -65,7 +64,7 @@ fn run_list(reporters: &[u8], book: &mut [u8], answers: &mut [u8]) {
 
 // Whether an answer is the one that is kept.
 fn is_kept(a: Answer, kept: &[u8]) -> bool {
-    let mut bytes = [0u8; 16];
+    let mut bytes = [0u8; ANSWER_SIZE];
     answer::write(a, &mut bytes, 0);
     text::same(&bytes, kept)
 }

@@ -5,8 +5,8 @@ use crate::banks::append_code;
 use crate::banks::append_mailbox;
 use crate::drawn::Call;
 use crate::drawn::Flaw;
-use crate::piece::append;
 use crate::piece::append_digits;
+use page::append;
 
 // Writes the sender, and answers its length.
 pub(crate) fn write_sender(out: &mut [u8], call: Call) -> usize {

@@ -1,24 +1,12 @@
 // Calls that are refused, each with a single fault, and whether the ledger is kept.
-use crate::hex::wide;
-use crate::piece::append;
 use calls::Replied;
 use libc::STDOUT_FILENO;
+use page::append;
 
-// A checksum with a byte more.
-fn mixed(sum: u64, b: u8) -> u64 {
-    (sum % 4294967296) * 65599 + wide(b)
-}
+// Where field 10 begins in the record that the calls share, and the third byte of its field 4.
+const FIELD_10: usize = 35;
 
-// A checksum of all bytes.
-fn checksum(s: &[u8]) -> u64 {
-    let mut sum = 0;
-    let mut i = 0;
-    while i < s.len() {
-        sum = mixed(sum, s[i]);
-        i += 1;
-    }
-    sum
-}
+const IN_FIELD_4: usize = 12;
 
 // Prints the number of a refusal.
 fn print_reply(reply: Replied) {
@@ -41,9 +29,10 @@ fn call<'a>(
     from: &'a [u8],
     record: &'a [u8],
 ) {
-    let before = checksum(book);
+    let mut room = [0u8; 32768];
+    let end = append(&mut room, 0, book);
     print_reply(calls::record_call(reporters, currencies, book, from, record));
-    if checksum(book) == before {
+    if text::same(book, text::front(&room, end)) {
         io::write_all(STDOUT_FILENO, b" kept\n");
     } else {
         io::write_all(STDOUT_FILENO, b" changed\n");
@@ -77,11 +66,25 @@ fn senders<'a>(reporters: &'a [u8], book: &mut [u8], record: &'a [u8]) {
     call(reporters, b"CHFEURUSD", book, b"mbone", record);
 }
 
-// Calls with a record of n bytes, whose tenth field, which nothing judges, is as long as it takes.
-fn long(reporters: &[u8], book: &mut [u8], n: usize) {
-    let tail = b";;;;WBAH;J;;;N;S;AT0000831706;XXX;1500;1;EUR;54,7;;;K;;;;;;;;;;N;C1";
+// Calls with the record, another byte in its field 4.
+fn damaged<'a>(reporters: &'a [u8], book: &mut [u8], record: &'a [u8], byte: u8) {
+    let mut room = [0u8; 256];
+    let end = append(&mut room, 0, record);
+    room[IN_FIELD_4] = byte;
+    call(
+        reporters,
+        b"CHFEURUSD",
+        book,
+        b"MBONE",
+        text::front(&room, end),
+    );
+}
+
+// Calls with a record of n bytes, whose field 10, which nothing judges, is as long as it takes.
+fn long<'a>(reporters: &'a [u8], book: &mut [u8], record: &'a [u8], n: usize) {
     let mut room = [b'X'; 32769];
-    append(&mut room, 0, b"B;98001;I;4711;;;B;20130903;101500;");
+    append(&mut room, 0, text::front(record, FIELD_10));
+    let tail = text::rest(record, FIELD_10);
     if n < tail.len() {
         return;
     }
@@ -96,15 +99,11 @@ fn long(reporters: &[u8], book: &mut [u8], n: usize) {
 }
 
 // Calls with records that are none; a byte shorter, the last one is a record, and is booked.
-fn records(reporters: &[u8], book: &mut [u8]) {
-    let quoted =
-        b"B;98001;I;47'1;;;B;20130903;101500;;;;;WBAH;J;;;N;S;AT0000831706;XXX;1500;1;EUR;54,7;;;K;;;;;;;;;;N;C1";
-    let broken =
-        b"B;98001;I;47\n1;;;B;20130903;101500;;;;;WBAH;J;;;N;S;AT0000831706;XXX;1500;1;EUR;54,7;;;K;;;;;;;;;;N;C1";
-    call(reporters, b"CHFEURUSD", book, b"MBONE", quoted);
-    call(reporters, b"CHFEURUSD", book, b"MBONE", broken);
-    long(reporters, book, 32769);
-    long(reporters, book, 32768);
+fn records<'a>(reporters: &'a [u8], book: &mut [u8], record: &'a [u8]) {
+    damaged(reporters, book, record, b'\'');
+    damaged(reporters, book, record, b'\n');
+    long(reporters, book, record, 32769);
+    long(reporters, book, record, 32768);
 }
 
 // All these calls. The record that they share has no fault.
@@ -113,5 +112,5 @@ pub(crate) fn run(reporters: &[u8], book: &mut [u8]) {
         b"B;98001;I;4711;;;B;20130903;101500;;;;;WBAH;J;;;N;S;AT0000831706;XXX;1500;1;EUR;54,7;;;K;;;;;;;;;;N;C1";
     lent(reporters, book, record);
     senders(reporters, book, record);
-    records(reporters, book);
+    records(reporters, book, record);
 }

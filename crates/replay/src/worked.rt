@@ -1,11 +1,12 @@
 // The worked records, called one by one on a ledger.
+use answer::ANSWER_SIZE;
 use answer::Answer;
 use calls::Replied;
 use libc::STDOUT_FILENO;
 
 // Prints the sixteen bytes of an answer.
 fn print_answer(a: Answer) {
-    let mut bytes = [0u8; 16];
+    let mut bytes = [0u8; ANSWER_SIZE];
     answer::write(a, &mut bytes, 0);
     crate::hex::print(&bytes);
 }
@@ -50,14 +51,14 @@ fn records<'a>(reporters: &'a [u8], book: &mut [u8], file: &'a [u8]) {
     let mut k = 0;
     let mut at = 0;
     while at < file.len() {
-        let rest = &file[at..];
-        let end = text::position(rest, b'\n');
-        if rest.len() <= end {
-            return;
-        }
         k += 1;
-        call(k, reporters, book, text::front(rest, end));
-        at = at + end + 1;
+        call(
+            k,
+            reporters,
+            book,
+            words::before(text::rest(file, at), b'\n'),
+        );
+        at = words::next(file, at, b'\n');
     }
 }
 
