@@ -1,9 +1,9 @@
 // Records, each judged at places 0 to 60. A case is a line: the place that it aims at, its sender, and the record.
-use crate::words::behind;
-use crate::words::word;
 use failures::Failures;
 use libc::STDOUT_FILENO;
 use sender::Checked;
+use words::before;
+use words::behind;
 
 // The failures of a record: of places 0 to 6, or, where it passes these, of places 7 to 60.
 fn failures_of<'a>(
@@ -22,31 +22,28 @@ fn failures_of<'a>(
     }
 }
 
-fn digit(n: u16) -> u8 {
-    (n % 10) as u8 + 48
-}
-
-// A code of four digits.
-fn print_code(code: u16) {
-    let digits = [
-        digit(code / 1000),
-        digit(code / 100),
-        digit(code / 10),
-        digit(code),
-    ];
-    io::write_all(STDOUT_FILENO, &digits);
-}
-
-// What the line aims at, the set, its first code and its count.
-pub(crate) fn print<'a>(line: &'a [u8], reporters: &'a [u8], currencies: &'a [u8]) {
-    let sent = behind(line);
-    let failed = failures_of(reporters, currencies, word(sent), behind(sent));
-    io::write_all(STDOUT_FILENO, word(line));
-    io::write_all(STDOUT_FILENO, b" ");
+// Prints a set: its number, its first code and its count.
+fn print_failures(failed: Failures) {
+    let mut code = [0u8; 4];
+    page::append_code(&mut code, 0, failed.code());
     io::print_decimal(STDOUT_FILENO, failed.bits);
     io::write_all(STDOUT_FILENO, b" ");
-    print_code(failed.code());
+    io::write_all(STDOUT_FILENO, &code);
     io::write_all(STDOUT_FILENO, b" ");
     io::print_decimal(STDOUT_FILENO, failed.count() as u64);
+}
+
+// Prints what the line aims at, and the set of failures.
+pub(crate) fn print<'a>(line: &'a [u8], reporters: &'a [u8], currencies: &'a [u8]) {
+    let sent = behind(line, b' ');
+    let failed = failures_of(
+        reporters,
+        currencies,
+        before(sent, b' '),
+        behind(sent, b' '),
+    );
+    io::write_all(STDOUT_FILENO, before(line, b' '));
+    io::write_all(STDOUT_FILENO, b" ");
+    print_failures(failed);
     io::write_all(STDOUT_FILENO, b"\n");
 }

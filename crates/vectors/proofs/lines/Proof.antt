@@ -1,44 +1,17 @@
-use borrow.Author.Needs.{needs}
-use Prim.Native.Nat.{_≤_, _-_}
+use Prim.Native.Nat.{_-_}
 use lib.ListN.{length}
+use Rattle.words.proofs.LineLaws.{next-less}
 use Rattle.vectors.proofs.lines.Statement.{statement}
 use Rattle.vectors.proofs.lines.Tie as tie
 
 abbrev Inv-loop : tie.InvT-loop
-Inv-loop kind file reporters currencies at₀ at = at ≤ length file
+Inv-loop kind file reporters currencies at₀ at = Unit {0}
 
 abbrev μ-loop : tie.MeasureT-loop
 μ-loop kind file reporters currencies at₀ at = length file - at
 
-loop-holds : tie.Need-loop-holds Inv-loop μ-loop
-loop-holds c = search needs
-
-sub-rest : tie.Need-sub-rest Inv-loop μ-loop
-sub-rest c = search needs
-
-part-rest-start : tie.Need-part-rest-start Inv-loop μ-loop
-part-rest-start c = search needs
-
-part-rest-end : tie.Need-part-rest-end Inv-loop μ-loop
-part-rest-end c = search needs
-
-returns : tie.Need-returns Inv-loop μ-loop
-returns c = search needs
-
-add-at : tie.Need-add-at Inv-loop μ-loop
-add-at c = search needs
-
-add-at-2 : tie.Need-add-at-2 Inv-loop μ-loop
-add-at-2 c = search needs
-
 loop-less : tie.Need-loop-less Inv-loop μ-loop
-loop-less c = search needs
-
-loop-again : tie.Need-loop-again Inv-loop μ-loop
-loop-again c = search needs
-
-returns-2 : tie.Need-returns-2 Inv-loop μ-loop
-returns-2 c = search needs
+loop-less c = next-less _ _ (c .next .ensures) (c .before .before .before .before .loop-test .taken)
 
 pub lines-spec : {M : Type 1} → statement M
 lines-spec =
@@ -46,16 +19,11 @@ lines-spec =
     (tie.spec
     Inv-loop
     μ-loop
-    loop-holds
-    sub-rest
-    part-rest-start
-    part-rest-end
-    (λ c κs. tt)
-    returns
+    (λ c. tt)
     (λ c κs. tt)
     (λ c κs. tt)
-    add-at
-    add-at-2
+    (λ c κs. tt)
+    (λ c κs. tt)
     loop-less
-    loop-again
-    returns-2)
+    (λ c. tt)
+    (λ c. tt))
