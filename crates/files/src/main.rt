@@ -41,61 +41,38 @@ fn lines<'a>(
     }
 }
 
-// Runs the cases of the file of that name.
-fn run<'a>(
-    name: &'a [u8],
-    file: &'a [u8],
-    reporters: &'a [u8],
-    currencies: &'a [u8],
-    book: &'a [u8],
-    answers: &'a [u8],
-) {
+// Runs the cases of the file of that name, on the sample of data/.
+fn run(name: &[u8]) {
     let mut cases = io::large_buffer();
-    let n = load_or_fail(name, &mut cases);
-    lines(
-        text::front(&cases, n),
-        file,
-        reporters,
-        currencies,
-        book,
-        answers,
-    );
-}
-
-// Runs all files of cases.
-fn run_all<'a>(
-    file: &'a [u8],
-    reporters: &'a [u8],
-    currencies: &'a [u8],
-    book: &'a [u8],
-    answers: &'a [u8],
-) {
-    run(b"cuts.txt", file, reporters, currencies, book, answers);
-    run(b"edges.txt", file, reporters, currencies, book, answers);
-    run(b"forms.txt", file, reporters, currencies, book, answers);
-    run(b"bodies.txt", file, reporters, currencies, book, answers);
-    run(b"limits.txt", file, reporters, currencies, book, answers);
-    run(b"lent.txt", file, reporters, currencies, book, answers);
-    run(b"order.txt", file, reporters, currencies, book, answers);
-    run(b"records.txt", file, reporters, currencies, book, answers);
-}
-
-fn main() {
     let mut file = [0u8; 1024];
     let mut table = [0u8; 512];
     let mut list = [0u8; 1536];
     let mut book = [0u8; 32768];
     let mut answers = [0u8; ANSWER_ROOM];
+    let k = load_or_fail(name, &mut cases);
     let n = load_or_fail(b"report.edi", &mut file);
     let rows = load_or_fail(b"reporters.ref", &mut table);
     let codes = load_or_fail(b"currency.ref", &mut list);
     let m = load_or_fail(b"ledger.dat", &mut book);
     fill(&mut answers);
-    run_all(
+    lines(
+        text::front(&cases, k),
         text::front(&file, n),
         text::front(&table, rows),
         text::front(&list, codes),
         text::front(&book, m),
         &answers,
     );
+}
+
+// Runs all files of cases.
+fn main() {
+    run(b"cuts.txt");
+    run(b"edges.txt");
+    run(b"forms.txt");
+    run(b"bodies.txt");
+    run(b"limits.txt");
+    run(b"lent.txt");
+    run(b"order.txt");
+    run(b"records.txt");
 }

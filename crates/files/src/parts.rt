@@ -1,21 +1,9 @@
 // The pieces and places that an edit names.
 
-// Writes the bytes that hexadecimal digits give, as far as there is room, and answers where they end.
-fn append_hex(out: &mut [u8], at: usize, hex: &[u8]) -> usize {
-    let mut end = at;
-    let mut i = 0;
-    while i < hex.len() / 2 {
-        let byte = [words::hex_byte(text::rest(hex, i * 2))];
-        end = page::append(out, end, &byte);
-        i += 1;
-    }
-    end
-}
-
 // Writes the bytes that a piece stands for: hexadecimal behind %, else itself.
 pub(crate) fn append_piece(out: &mut [u8], at: usize, piece: &[u8]) -> usize {
     if text::same(text::front(piece, 1), b"%") {
-        return append_hex(out, at, text::rest(piece, 1));
+        return words::append_hex(out, at, text::rest(piece, 1));
     }
     page::append(out, at, piece)
 }

@@ -1,6 +1,7 @@
 // A list of drawn calls on one ledger, and each bank's lone run, from a ledger of zeros.
 use crate::banks::BANKS;
 use crate::drawn::Call;
+use crate::print::print_count;
 use answer::ANSWER_SIZE;
 use answer::Answer;
 use calls::Replied;
@@ -136,12 +137,6 @@ fn compartment(book: &[u8], bank: usize) -> &[u8] {
         text::rest(book, bank % BANKS * COMPARTMENT_SIZE),
         COMPARTMENT_SIZE,
     )
-}
-
-// Prints a label and a number.
-fn print_count(label: &[u8], n: u64) {
-    io::write_all(STDOUT_FILENO, label);
-    io::print_decimal(STDOUT_FILENO, n);
 }
 
 // Runs a bank alone, and prints whether its answers and its compartment are those of the list.

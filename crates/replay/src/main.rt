@@ -1,10 +1,10 @@
 // Replays single-record calls: the worked records, calls that are refused, and a random list against each bank's lone run.
 mod banks;
 mod drawn;
-mod hex;
 mod list;
 mod message;
 mod piece;
+mod print;
 mod refused;
 mod worked;
 

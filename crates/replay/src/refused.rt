@@ -1,4 +1,5 @@
 // Calls that are refused, each with a single fault, and whether the ledger is kept.
+use crate::print::print_count;
 use calls::Replied;
 use libc::STDOUT_FILENO;
 use page::append;
@@ -11,10 +12,7 @@ const IN_FIELD_4: usize = 12;
 // Prints the number of a refusal.
 fn print_reply(reply: Replied) {
     match reply {
-        Replied::Refused(n) => {
-            io::write_all(STDOUT_FILENO, b"refused ");
-            io::print_decimal(STDOUT_FILENO, n as u64);
-        }
+        Replied::Refused(n) => print_count(b"refused ", n as u64),
         Replied::Answered(_) => {
             io::write_all(STDOUT_FILENO, b"answered");
         }
@@ -66,18 +64,17 @@ fn senders<'a>(reporters: &'a [u8], book: &mut [u8], record: &'a [u8]) {
     call(reporters, b"CHFEURUSD", book, b"mbone", record);
 }
 
+// Calls with a record, the rest being as it should be.
+fn submit<'a>(reporters: &'a [u8], book: &mut [u8], record: &'a [u8]) {
+    call(reporters, b"CHFEURUSD", book, b"MBONE", record);
+}
+
 // Calls with the record, another byte in its field 4.
 fn damaged<'a>(reporters: &'a [u8], book: &mut [u8], record: &'a [u8], byte: u8) {
     let mut room = [0u8; 256];
     let end = append(&mut room, 0, record);
     room[IN_FIELD_4] = byte;
-    call(
-        reporters,
-        b"CHFEURUSD",
-        book,
-        b"MBONE",
-        text::front(&room, end),
-    );
+    submit(reporters, book, text::front(&room, end));
 }
 
 // Calls with a record of n bytes, whose field 10, which nothing judges, is as long as it takes.
@@ -89,13 +86,7 @@ fn long<'a>(reporters: &'a [u8], book: &mut [u8], record: &'a [u8], n: usize) {
         return;
     }
     append(&mut room, n - tail.len(), tail);
-    call(
-        reporters,
-        b"CHFEURUSD",
-        book,
-        b"MBONE",
-        text::front(&room, n),
-    );
+    submit(reporters, book, text::front(&room, n));
 }
 
 // Calls with records that are none; a byte shorter, the last one is a record, and is booked.

@@ -1,4 +1,6 @@
 // The worked records, called one by one on a ledger.
+use crate::print::print_bytes;
+use crate::print::print_count;
 use answer::ANSWER_SIZE;
 use answer::Answer;
 use calls::Replied;
@@ -8,17 +10,14 @@ use libc::STDOUT_FILENO;
 fn print_answer(a: Answer) {
     let mut bytes = [0u8; ANSWER_SIZE];
     answer::write(a, &mut bytes, 0);
-    crate::hex::print(&bytes);
+    print_bytes(&bytes);
 }
 
 // Prints the bytes of an answer, or the number of a refusal.
 fn print_reply(reply: Replied) {
     match reply {
         Replied::Answered(a) => print_answer(a),
-        Replied::Refused(n) => {
-            io::write_all(STDOUT_FILENO, b"refused ");
-            io::print_decimal(STDOUT_FILENO, n as u64);
-        }
+        Replied::Refused(n) => print_count(b"refused ", n as u64),
     }
     io::write_all(STDOUT_FILENO, b"\n");
 }
@@ -27,18 +26,17 @@ fn print_reply(reply: Replied) {
 fn print_row(book: &[u8], second: bool) {
     if second {
         io::write_all(STDOUT_FILENO, b"row 1 ");
-        crate::hex::print(text::front(text::rest(book, 32), 32));
+        print_bytes(text::front(text::rest(book, 32), 32));
     } else {
         io::write_all(STDOUT_FILENO, b"row 0 ");
-        crate::hex::print(text::front(book, 32));
+        print_bytes(text::front(book, 32));
     }
     io::write_all(STDOUT_FILENO, b"\n");
 }
 
 // Calls record k, prints what it answers, and row 0 behind the first.
 fn call<'a>(k: usize, reporters: &'a [u8], book: &mut [u8], record: &'a [u8]) {
-    io::write_all(STDOUT_FILENO, b"record ");
-    io::print_decimal(STDOUT_FILENO, k as u64);
+    print_count(b"record ", k as u64);
     io::write_all(STDOUT_FILENO, b" ");
     print_reply(calls::record_call(reporters, b"CHFEURUSD", book, b"MBONE", record));
     if k == 1 {

@@ -5,25 +5,9 @@ use words::before;
 use words::behind;
 use words::number;
 
-// Writes the bytes that a hexadecimal text gives, from the start of a part on.
-fn fill(part: &mut [u8], hex: &[u8]) {
-    let mut i = 0;
-    while i < part.len() {
-        if hex.len() / 2 <= i {
-            return;
-        }
-        part[i] = words::hex_byte(text::rest(hex, i * 2));
-        i += 1;
-    }
-}
-
 // Writes what a token PLACE:HEX says.
 fn patch(object: &mut [u8], token: &[u8]) {
-    let at = number(before(token, b':'));
-    if object.len() < at {
-        return;
-    }
-    fill(&mut object[at..], behind(token, b':'));
+    words::append_hex(object, number(before(token, b':')), behind(token, b':'));
 }
 
 // Writes what the tokens of a line say.

@@ -1,9 +1,9 @@
--- Laws of the parts of a line: where they lie, that what is left grows less, and which byte two digits are.
+-- Laws of the parts of a line: where they lie, that what is left grows less, and which bytes digits are.
 -- Assumes nothing.
-use Prim.Native.Nat.{ℕ, suc, _+_, _-_, _*_, _<_, _≤_}
+use Prim.Native.Nat.{ℕ, zero, suc, _+_, _-_, _*_, _<_, _≤_}
 use mathlib.Core.Bool.{Bool, true, false, cond}
-use mathlib.Core.List.{List}
-use mathlib.Core.Path.{_≡_, refl, ap, _∙_}
+use mathlib.Core.List.{List, [], _∷_}
+use mathlib.Core.Path.{_≡_, refl, ap, sym, _∙_}
 use native.Mathlib.Nat.{add-assoc}
 use native.Mathlib.Numerals.{add-one}
 use native.Mathlib.Omega.{arith}
@@ -15,7 +15,9 @@ use lib.Seq.{drop-drop}
 use Rattle.text.specs.Bytes.{positionOf}
 use Rattle.text.specs.Part.{Lies, restStart}
 use Rattle.text.proofs.ByteLaws.{position-le}
-use Rattle.words.specs.Words.{beforeFirst, behindFirst, tailStart, nextPlace, digitValue, byteOf}
+use Rattle.page.specs.Page.{Page, page, appended}
+use Rattle.page.proofs.PageLaws.{appended-both}
+use Rattle.words.specs.Words.{beforeFirst, behindFirst, tailStart, nextPlace, digitValue, byteOf, bytesOf}
 
 -- what stands before the first byte b is the front up to that byte
 pub lies-before : (b : ℕ) {s r : RefT (List ℕ)} {k : ℕ} → k ≡ positionOf b (now s) → Lies s 0 (take k (now s)) r → Lies s 0 (beforeFirst b (now s)) r
@@ -65,3 +67,29 @@ byte-there s h = rw (le-leb 2 (length s) h) refl
 pub byte-short : (s : List ℕ) → length s < 2 → 0 ≡ byteOf s
 unfolding byteOf
 byte-short s h = rw (lt-leb 2 (length s) h) refl
+
+-- two digits more, and none
+two-digits : (s : List ℕ) → 2 ≤ length s → bytesOf s ≡ byteOf s ∷ bytesOf (drop 2 s)
+unfolding bytesOf
+two-digits [] h = absurd (omega arith)
+two-digits (x ∷ []) h = absurd (omega arith)
+two-digits (x ∷ (y ∷ s)) h = ap (λ (b : ℕ). b ∷ bytesOf s) (byte-there (x ∷ (y ∷ s)) h)
+
+no-digits : (s : List ℕ) → length s < 2 → bytesOf s ≡ []
+unfolding bytesOf
+no-digits [] h = refl
+no-digits (x ∷ []) h = refl
+no-digits (x ∷ (y ∷ s)) h = absurd (omega arith)
+
+-- what a loop knows that writes the bytes of digits one by one: what is still to be written are those of the rest, from place i
+module _ (hex : List ℕ) (i : ℕ) (q : Page) {p : Page} (e : appended q (bytesOf (drop i hex)) ≡ p) where
+  pub bytes-more : {b : ℕ} {r : Page} → 2 ≤ length hex - i → b ≡ byteOf (drop i hex) → r ≡ appended q (b ∷ []) → appended r (bytesOf (drop (i + 2) hex)) ≡ p
+  unfolding appended
+  bytes-more {b} {r} h d a =
+      let more : b ∷ bytesOf (drop (i + 2) hex) ≡ bytesOf (drop i hex)
+      = rw (d, ← drop-drop 2 i hex) (sym (two-digits (drop i hex) (rw length-drop h))) in
+      rw a (appended-both q (b ∷ []) (bytesOf (drop (i + 2) hex)) ∙ ap (appended q) more ∙ e)
+
+  pub bytes-done : length hex - i < 2 → q ≡ p
+  unfolding appended
+  bytes-done h = ap (appended q) (sym (no-digits (drop i hex) (rw length-drop h))) ∙ e

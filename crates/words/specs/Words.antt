@@ -3,7 +3,7 @@
 use Prim.Native.Nat.{ℕ, suc, _+_, _-_, _*_, _%_}
 use Prim.Native.Char.{code}
 use mathlib.Core.Bool.{cond}
-use mathlib.Core.List.{List}
+use mathlib.Core.List.{List, [], _∷_}
 use lib.Dec.{leb}
 use lib.ListN.{length, getD, take, drop}
 use Rattle.text.specs.Bytes.{positionOf}
@@ -36,3 +36,9 @@ digitValue b = cond (leb (code "a") b) ((b - code "a" + 10) % 16) (cond (leb (co
 -- the byte of the first two hexadecimal digits; 0 where they are not both there
 unfoldable pub byteOf : List ℕ → ℕ
 byteOf s = cond (leb 2 (length s)) (digitValue (getD s 0 0) * 16 + digitValue (getD s 1 0)) 0
+
+-- the bytes that hexadecimal digits give, two by two; a last digit by itself gives none
+unfoldable pub bytesOf : List ℕ → List ℕ
+bytesOf [] = []
+bytesOf (x ∷ []) = []
+bytesOf (x ∷ (y ∷ s)) = (digitValue x * 16 + digitValue y) ∷ bytesOf s

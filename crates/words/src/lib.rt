@@ -2,7 +2,8 @@
 ghost use mathlib.Core.Path.{_≡_};
 ghost use Prim.Native.Nat.{_<_};
 ghost use Rattle.text.specs.Part.{Lies};
-ghost use Rattle.words.specs.Words.{beforeFirst, behindFirst, tailStart, nextPlace, numberOf, digitValue, byteOf};
+ghost use Rattle.page.specs.Page.{page, appended};
+ghost use Rattle.words.specs.Words.{beforeFirst, behindFirst, tailStart, nextPlace, numberOf, digitValue, byteOf, bytesOf};
 use decimal::Decimal;
 
 // The text before the first byte b, as a part of s; all of s where there is none.
@@ -57,4 +58,18 @@ pub fn hex_byte(hex: &[u8]) -> u8
         return 0;
     }
     nibble(hex[0]) * 16 + nibble(hex[1])
+}
+
+// Writes the bytes that hexadecimal digits give, two by two, from a place on, as far as there is room, and answers where they end.
+pub fn append_hex(out: &mut [u8], at: usize, hex: &[u8]) -> usize
+    ensures { λ r. ⌜ page (now (out .exit)) r ≡ appended (page (now (out .entry)) at) (bytesOf (now (hex .entry))) ⌝ }
+{
+    let mut end = at;
+    let mut i = 0;
+    while 2 <= hex.len() - i {
+        let byte = [hex_byte(text::rest(hex, i))];
+        end = page::append(out, end, &byte);
+        i += 2;
+    }
+    end
 }

@@ -1,8 +1,8 @@
 use borrow.Author.Needs.{needs}
 use Prim.Native.Nat.{_≤_, _-_}
 use lib.ListN.{length}
-use Rattle.replay.proofs.hex.print.Statement.{statement}
-use Rattle.replay.proofs.hex.print.Tie as tie
+use Rattle.replay.proofs.print.print_bytes.Statement.{statement}
+use Rattle.replay.proofs.print.print_bytes.Tie as tie
 
 abbrev Inv-loop : tie.InvT-loop
 Inv-loop s i₀ i = i ≤ length s
@@ -28,8 +28,8 @@ loop-again c = search needs
 returns : tie.Need-returns Inv-loop μ-loop
 returns c = search needs
 
-pub print-spec : {M : Type 1} → statement M
-print-spec =
+pub print-bytes-spec : {M : Type 1} → statement M
+print-bytes-spec =
     tie.close
     (tie.spec
     Inv-loop
