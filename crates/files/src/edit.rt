@@ -3,21 +3,28 @@
 ghost use Prim.Native.Nat.{_≤_};
 ghost use lib.ListN.{length};
 ghost use Rattle.io.specs.Counts.{Counts};
-use crate::parts::append_piece;
-use crate::parts::place;
 use words::before;
 use words::behind;
 use words::number;
 
-// Writes a piece so many times.
-fn append_times(out: &mut [u8], at: usize, times: usize, piece: &[u8]) -> usize {
-    let mut end = at;
-    let mut k = 0;
-    while k < times {
-        end = append_piece(out, end, piece);
-        k += 1;
+// Where a text first stands in s; the length of s where it doesn't.
+fn find(s: &[u8], t: &[u8]) -> usize {
+    let mut i = 0;
+    while i < s.len() {
+        if text::same(text::front(text::rest(s, i), t.len()), t) {
+            return i;
+        }
+        i += 1;
     }
-    end
+    i
+}
+
+// The place in s that a text names: its number, or where it stands.
+fn place(s: &[u8], name: &[u8]) -> usize {
+    if text::all(text::Class::Digit, name) {
+        return number(name);
+    }
+    find(s, name)
 }
 
 // Writes an object, edited.
@@ -27,7 +34,7 @@ fn append_edited(out: &mut [u8], object: &[u8], edit: &[u8]) -> usize {
     let at = place(object, before(edit, b'/'));
     let rest = text::rest(text::rest(object, at), number(before(dropping, b'/')));
     let kept = page::append(out, 0, text::front(object, at));
-    let put = append_times(
+    let put = words::append_times(
         out,
         kept,
         number(before(putting, b'/')),

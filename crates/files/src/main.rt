@@ -2,7 +2,6 @@
 mod case;
 mod checksum;
 mod edit;
-mod parts;
 
 use disk::load_or_fail;
 

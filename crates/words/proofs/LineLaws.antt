@@ -1,4 +1,4 @@
--- Laws of the parts of a line: where they lie, that what is left grows less, and which bytes digits are.
+-- Laws of the parts of a line: where they lie, that what is left grows less, and which bytes pieces are.
 -- Assumes nothing.
 use Prim.Native.Nat.{ℕ, zero, suc, _+_, _-_, _*_, _<_, _≤_}
 use mathlib.Core.Bool.{Bool, true, false, cond}
@@ -12,12 +12,13 @@ use denote.Ref.{RefT, now, ptr}
 use lib.Dec.{leb}
 use lib.ListN.{length, getD, take, drop, length-drop}
 use lib.Seq.{drop-drop}
-use Rattle.text.specs.Bytes.{positionOf}
+use Rattle.text.specs.Bytes.{same, positionOf}
+use Rattle.text.specs.Text.{bytes}
 use Rattle.text.specs.Part.{Lies, restStart}
 use Rattle.text.proofs.ByteLaws.{position-le}
 use Rattle.page.specs.Page.{Page, page, appended}
 use Rattle.page.proofs.PageLaws.{appended-both}
-use Rattle.words.specs.Words.{beforeFirst, behindFirst, tailStart, nextPlace, digitValue, byteOf, bytesOf}
+use Rattle.words.specs.Words.{beforeFirst, behindFirst, tailStart, nextPlace, digitValue, byteOf, bytesOf, pieceBytes, repeated}
 
 -- what stands before the first byte b is the front up to that byte
 pub lies-before : (b : ℕ) {s r : RefT (List ℕ)} {k : ℕ} → k ≡ positionOf b (now s) → Lies s 0 (take k (now s)) r → Lies s 0 (beforeFirst b (now s)) r
@@ -83,7 +84,8 @@ no-digits (x ∷ (y ∷ s)) h = absurd (omega arith)
 
 -- what a loop knows that writes the bytes of digits one by one: what is still to be written are those of the rest, from place i
 module _ (hex : List ℕ) (i : ℕ) (q : Page) {p : Page} (e : appended q (bytesOf (drop i hex)) ≡ p) where
-  pub bytes-more : {b : ℕ} {r : Page} → 2 ≤ length hex - i → b ≡ byteOf (drop i hex) → r ≡ appended q (b ∷ []) → appended r (bytesOf (drop (i + 2) hex)) ≡ p
+  pub bytes-more : {b : ℕ} {r : Page} → 2 ≤ length hex - i → b ≡ byteOf (drop i hex) → r ≡ appended q (b ∷ [])
+      → appended r (bytesOf (drop (i + 2) hex)) ≡ p
   unfolding appended
   bytes-more {b} {r} h d a =
       let more : b ∷ bytesOf (drop (i + 2) hex) ≡ bytesOf (drop i hex)
@@ -93,3 +95,27 @@ module _ (hex : List ℕ) (i : ℕ) (q : Page) {p : Page} (e : appended q (bytes
   pub bytes-done : length hex - i < 2 → q ≡ p
   unfolding appended
   bytes-done h = ap (appended q) (sym (no-digits (drop i hex) (rw length-drop h))) ∙ e
+
+-- a piece behind %, and any other
+module _ (s : List ℕ) {first : List ℕ} {b : Bool} (f : first ≡ take 1 s) (e : b ≡ same first (bytes "%")) where
+  pub piece-digits : b ≡ true → bytesOf (drop 1 s) ≡ pieceBytes s
+  unfolding pieceBytes
+  piece-digits t = rw (← f, ← e, t) refl
+
+  pub piece-itself : b ≡ false → s ≡ pieceBytes s
+  unfolding pieceBytes
+  piece-itself t = rw (← f, ← e, t) refl
+
+-- what a loop knows that writes a text so many times
+pub repeated-more : (t : List ℕ) (n : ℕ) (q : Page) {p r : Page} → 0 < n → appended q (repeated n t) ≡ p → r ≡ appended q t
+    → appended r (repeated (n - 1) t) ≡ p
+unfolding repeated
+repeated-more t zero q h e a = absurd (omega arith)
+repeated-more t (suc n) q h e a =
+    let less : suc n - 1 ≡ n = omega arith in
+    rw (a, less) (appended-both q t (repeated n t) ∙ e)
+
+pub repeated-done : (t : List ℕ) (n : ℕ) (q : Page) {p : Page} → n ≤ 0 → appended q (repeated n t) ≡ p → q ≡ p
+unfolding repeated appended
+repeated-done t zero q h e = e
+repeated-done t (suc n) q h e = absurd (omega arith)

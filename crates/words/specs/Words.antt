@@ -1,12 +1,13 @@
 -- How the test programs read a line: the parts between single bytes, as spaces, and the numbers and bytes that such parts stand for.
 -- Assumes nothing.
-use Prim.Native.Nat.{ℕ, suc, _+_, _-_, _*_, _%_}
+use Prim.Native.Nat.{ℕ, zero, suc, _+_, _-_, _*_, _%_}
 use Prim.Native.Char.{code}
 use mathlib.Core.Bool.{cond}
-use mathlib.Core.List.{List, [], _∷_}
+use mathlib.Core.List.{List, [], _∷_, _++_}
 use lib.Dec.{leb}
 use lib.ListN.{length, getD, take, drop}
-use Rattle.text.specs.Bytes.{positionOf}
+use Rattle.text.specs.Bytes.{same, positionOf}
+use Rattle.text.specs.Text.{bytes}
 use Rattle.decimal.specs.Decimal.{decimalOf, valueOf}
 
 -- the text before the first byte b; all of it where there is none
@@ -42,3 +43,12 @@ unfoldable pub bytesOf : List ℕ → List ℕ
 bytesOf [] = []
 bytesOf (x ∷ []) = []
 bytesOf (x ∷ (y ∷ s)) = (digitValue x * 16 + digitValue y) ∷ bytesOf s
+
+-- the bytes that a piece stands for: those that hexadecimal digits give behind %, else its own
+unfoldable pub pieceBytes : List ℕ → List ℕ
+pieceBytes s = cond (same (take 1 s) (bytes "%")) (bytesOf (drop 1 s)) s
+
+-- a text so many times
+unfoldable pub repeated : ℕ → List ℕ → List ℕ
+repeated zero t = []
+repeated (suc n) t = t ++ repeated n t

@@ -3,7 +3,7 @@ ghost use mathlib.Core.Path.{_≡_};
 ghost use Prim.Native.Nat.{_<_};
 ghost use Rattle.text.specs.Part.{Lies};
 ghost use Rattle.page.specs.Page.{page, appended};
-ghost use Rattle.words.specs.Words.{beforeFirst, behindFirst, tailStart, nextPlace, numberOf, digitValue, byteOf, bytesOf};
+ghost use Rattle.words.specs.Words.{beforeFirst, behindFirst, tailStart, nextPlace, numberOf, digitValue, byteOf, bytesOf, pieceBytes, repeated};
 use decimal::Decimal;
 
 // The text before the first byte b, as a part of s; all of s where there is none.
@@ -70,6 +70,29 @@ pub fn append_hex(out: &mut [u8], at: usize, hex: &[u8]) -> usize
         let byte = [hex_byte(text::rest(hex, i))];
         end = page::append(out, end, &byte);
         i += 2;
+    }
+    end
+}
+
+// Writes the bytes that a piece stands for: hexadecimal behind %, else itself.
+fn append_piece(out: &mut [u8], at: usize, piece: &[u8]) -> usize
+    ensures { λ r. ⌜ page (now (out .exit)) r ≡ appended (page (now (out .entry)) at) (pieceBytes (now (piece .entry))) ⌝ }
+{
+    if text::same(text::front(piece, 1), b"%") {
+        return append_hex(out, at, text::rest(piece, 1));
+    }
+    page::append(out, at, piece)
+}
+
+// Writes the bytes that a piece stands for so many times from a place on, as far as there is room, and answers where they end.
+pub fn append_times(out: &mut [u8], at: usize, times: usize, piece: &[u8]) -> usize
+    ensures { λ r. ⌜ page (now (out .exit)) r ≡ appended (page (now (out .entry)) at) (repeated times (pieceBytes (now (piece .entry)))) ⌝ }
+{
+    let mut end = at;
+    let mut left = times;
+    while 0 < left {
+        end = append_piece(out, end, piece);
+        left -= 1;
     }
     end
 }

@@ -1,8 +1,8 @@
 use borrow.Author.Needs.{needs}
 use Prim.Native.Nat.{_≤_, _-_}
 use lib.ListN.{length}
-use Rattle.files.proofs.parts.find.Statement.{statement}
-use Rattle.files.proofs.parts.find.Tie as tie
+use Rattle.files.proofs.edit.find.Statement.{statement}
+use Rattle.files.proofs.edit.find.Tie as tie
 
 abbrev Inv-loop : tie.InvT-loop
 Inv-loop s t i₀ i = i ≤ length s
