@@ -2,6 +2,7 @@
 mod identifiers;
 mod lent;
 mod records;
+mod view;
 
 use disk::load_or_fail;
 
@@ -11,6 +12,7 @@ enum Kind {
     Swift,
     Lent,
     Records,
+    Fields,
 }
 
 // Prints what becomes of a line.
@@ -20,6 +22,7 @@ fn print<'a>(kind: Kind, line: &'a [u8], reporters: &'a [u8], currencies: &'a [u
         Kind::Swift => identifiers::print_swift(line),
         Kind::Lent => lent::print(line),
         Kind::Records => records::print(line, reporters, currencies),
+        Kind::Fields => view::print(line),
     }
 }
 
@@ -57,4 +60,5 @@ fn main() {
     run(Kind::Lent, b"lent.txt", reporters, currencies);
     run(Kind::Records, b"records.txt", reporters, currencies);
     run(Kind::Records, b"underlying.txt", reporters, currencies);
+    run(Kind::Fields, b"fields.txt", reporters, currencies);
 }
