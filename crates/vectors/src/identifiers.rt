@@ -2,13 +2,12 @@
 use libc::STDOUT_FILENO;
 use words::before;
 
-// The value of a line, which stands before the space; `-` is the empty value.
-fn value(line: &[u8]) -> &[u8] {
-    let v = before(line, b' ');
-    if text::same(v, b"-") {
-        text::front(v, 0)
+// The value that a word stands for; `-` is the empty value.
+pub(crate) fn value(word: &[u8]) -> &[u8] {
+    if text::same(word, b"-") {
+        text::front(word, 0)
     } else {
-        v
+        word
     }
 }
 
@@ -24,10 +23,10 @@ fn print(line: &[u8], right: bool) {
 
 // Prints whether the value is an ISIN with the right check digit.
 pub(crate) fn print_isin(line: &[u8]) {
-    print(line, identifier::is_isin(value(line)));
+    print(line, identifier::is_isin(value(before(line, b' '))));
 }
 
 // Prints whether the value has the form of a SWIFT address.
 pub(crate) fn print_swift(line: &[u8]) {
-    print(line, identifier::is_swift(value(line)));
+    print(line, identifier::is_swift(value(before(line, b' '))));
 }

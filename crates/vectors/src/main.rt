@@ -1,4 +1,5 @@
 // Runs vectors: prints a line for each line of its files.
+mod bookings;
 mod identifiers;
 mod lent;
 mod records;
@@ -13,6 +14,7 @@ enum Kind {
     Lent,
     Records,
     Fields,
+    Bookings,
 }
 
 // Prints what becomes of a line.
@@ -23,6 +25,7 @@ fn print<'a>(kind: Kind, line: &'a [u8], reporters: &'a [u8], currencies: &'a [u
         Kind::Lent => lent::print(line),
         Kind::Records => records::print(line, reporters, currencies),
         Kind::Fields => view::print(line),
+        Kind::Bookings => bookings::print(line),
     }
 }
 
@@ -61,4 +64,5 @@ fn main() {
     run(Kind::Records, b"records.txt", reporters, currencies);
     run(Kind::Records, b"underlying.txt", reporters, currencies);
     run(Kind::Fields, b"fields.txt", reporters, currencies);
+    run(Kind::Bookings, b"bookings.txt", reporters, currencies);
 }

@@ -23,7 +23,7 @@ fn failures_of<'a>(
 }
 
 // Prints a set: its number, its first code and its count.
-fn print_failures(failed: Failures) {
+pub(crate) fn print_failures(failed: Failures) {
     let mut code = [0u8; 4];
     page::append_code(&mut code, 0, failed.code());
     io::print_decimal(STDOUT_FILENO, failed.bits);
