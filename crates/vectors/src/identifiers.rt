@@ -1,6 +1,7 @@
-// Values of ISINs and SWIFT addresses, each with a verdict from elsewhere, which is not looked at.
+// Values of ISINs and SWIFT addresses, each with a verdict from elsewhere, which is not looked at, and perhaps a label that says from where.
 use libc::STDOUT_FILENO;
 use words::before;
+use words::behind;
 
 // The value that a word stands for; `-` is the empty value.
 pub(crate) fn value(word: &[u8]) -> &[u8] {
@@ -11,14 +12,20 @@ pub(crate) fn value(word: &[u8]) -> &[u8] {
     }
 }
 
-// Prints the line as it was, up to its space, and this library's verdict.
+// Prints the value as it stands in the line, this library's verdict, and the label.
 fn print(line: &[u8], right: bool) {
+    let label = behind(behind(line, b' '), b' ');
     io::write_all(STDOUT_FILENO, before(line, b' '));
     if right {
-        io::write_all(STDOUT_FILENO, b" 1\n");
+        io::write_all(STDOUT_FILENO, b" 1");
     } else {
-        io::write_all(STDOUT_FILENO, b" 0\n");
+        io::write_all(STDOUT_FILENO, b" 0");
     }
+    if 0 < label.len() {
+        io::write_all(STDOUT_FILENO, b" ");
+    }
+    io::write_all(STDOUT_FILENO, label);
+    io::write_all(STDOUT_FILENO, b"\n");
 }
 
 // Prints whether the value is an ISIN with the right check digit.

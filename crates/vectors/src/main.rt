@@ -58,6 +58,7 @@ fn main() {
     let codes = load_or_fail(b"currency.ref", &mut list);
     let reporters = text::front(&table, rows);
     let currencies = text::front(&list, codes);
+    run(Kind::Isin, b"published.txt", reporters, currencies);
     run(Kind::Isin, b"isin.txt", reporters, currencies);
     run(Kind::Swift, b"bic.txt", reporters, currencies);
     run(Kind::Lent, b"lent.txt", reporters, currencies);
