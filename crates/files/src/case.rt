@@ -36,13 +36,13 @@ fn call<'a>(
     file: &'a [u8],
     reporters: &'a [u8],
     currencies: &'a [u8],
-    book: &mut [u8],
+    ledger: &mut [u8],
     answers: &mut [u8],
 ) {
-    let ledger_was = adler(book);
+    let ledger_was = adler(ledger);
     let answers_were = adler(answers);
-    print_filed(calls::filing::file_call(file, reporters, currencies, book, answers));
-    print_sum(b" ledger ", ledger_was, adler(book));
+    print_filed(calls::filing::file_call(file, reporters, currencies, ledger, answers));
+    print_sum(b" ledger ", ledger_was, adler(ledger));
     print_sum(b" answers ", answers_were, adler(answers));
     io::write_all(STDOUT_FILENO, b"\n");
 }
@@ -53,12 +53,12 @@ fn run_on<'a>(
     file: &'a [u8],
     reporters: &'a [u8],
     currencies: &'a [u8],
-    book: &'a [u8],
+    ledger: &'a [u8],
     answers: &'a [u8],
 ) {
     let mut own = [0u8; 33024];
     let mut room = [0u8; 16640];
-    let n = edited(&mut own, book, b"ledger", tokens);
+    let n = edited(&mut own, ledger, b"ledger", tokens);
     let k = edited(&mut room, answers, b"answers", tokens);
     call(file, reporters, currencies, &mut own[..n], &mut room[..k]);
 }
@@ -69,7 +69,7 @@ pub(crate) fn run<'a>(
     file: &'a [u8],
     reporters: &'a [u8],
     currencies: &'a [u8],
-    book: &'a [u8],
+    ledger: &'a [u8],
     answers: &'a [u8],
 ) {
     let tokens = behind(line, b' ');
@@ -85,7 +85,7 @@ pub(crate) fn run<'a>(
         text::front(&own, n),
         text::front(&table, rows),
         text::front(&list, codes),
-        book,
+        ledger,
         answers,
     );
 }

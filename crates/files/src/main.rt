@@ -23,7 +23,7 @@ fn lines<'a>(
     file: &'a [u8],
     reporters: &'a [u8],
     currencies: &'a [u8],
-    book: &'a [u8],
+    ledger: &'a [u8],
     answers: &'a [u8],
 ) {
     let mut at = 0;
@@ -33,7 +33,7 @@ fn lines<'a>(
             file,
             reporters,
             currencies,
-            book,
+            ledger,
             answers,
         );
         at = words::next(cases, at, b'\n');
@@ -46,20 +46,20 @@ fn run(name: &[u8]) {
     let mut file = [0u8; 1024];
     let mut table = [0u8; 512];
     let mut list = [0u8; 1536];
-    let mut book = [0u8; 32768];
+    let mut ledger = [0u8; 32768];
     let mut answers = [0u8; ANSWER_ROOM];
     let k = load_or_fail(name, &mut cases);
     let n = load_or_fail(b"report.edi", &mut file);
     let rows = load_or_fail(b"reporters.ref", &mut table);
     let codes = load_or_fail(b"currency.ref", &mut list);
-    let m = load_or_fail(b"ledger.dat", &mut book);
+    let m = load_or_fail(b"ledger.dat", &mut ledger);
     fill(&mut answers);
     lines(
         text::front(&cases, k),
         text::front(&file, n),
         text::front(&table, rows),
         text::front(&list, codes),
-        text::front(&book, m),
+        text::front(&ledger, m),
         &answers,
     );
 }

@@ -41,22 +41,22 @@ fn answer_of(reply: Replied) -> Answer {
 }
 
 // Makes a call.
-fn answer_to(reporters: &[u8], book: &mut [u8], call: Call) -> Answer {
+fn answer_to(reporters: &[u8], ledger: &mut [u8], call: Call) -> Answer {
     let mut name = [0u8; 16];
     let mut room = [0u8; 256];
     let k = crate::message::write_sender(&mut name, call);
     let n = crate::message::write_record(&mut room, call);
-    let from = text::front(&name, k);
+    let sender = text::front(&name, k);
     let record = text::front(&room, n);
-    answer_of(calls::record_call(reporters, b"CHFEURUSD", book, from, record))
+    answer_of(calls::record_call(reporters, b"CHFEURUSD", ledger, sender, record))
 }
 
 // Makes all calls, and keeps their answers.
-fn run_list(reporters: &[u8], book: &mut [u8], answers: &mut [u8]) {
+fn run_list(reporters: &[u8], ledger: &mut [u8], answers: &mut [u8]) {
     let mut seed = crate::drawn::SEED;
     let mut k = 0;
     while k < CALLS {
-        let a = answer_to(reporters, book, crate::drawn::call_of(seed));
+        let a = answer_to(reporters, ledger, crate::drawn::call_of(seed));
         answer::write(a, answers, k * ANSWER_SIZE);
         seed = crate::drawn::next(seed);
         k += 1;
@@ -97,7 +97,7 @@ fn tallied(tally: Tally, a: Answer, kept: &[u8]) -> Tally {
 fn step<'a>(
     tally: Tally,
     reporters: &'a [u8],
-    book: &mut [u8],
+    ledger: &mut [u8],
     call: Call,
     bank: usize,
     kept: &'a [u8],
@@ -105,7 +105,7 @@ fn step<'a>(
     if !crate::drawn::passes_for(call, bank) {
         return tally;
     }
-    tallied(tally, answer_to(reporters, book, call), kept)
+    tallied(tally, answer_to(reporters, ledger, call), kept)
 }
 
 // The sixteen bytes that are kept for call k.
@@ -114,7 +114,7 @@ fn kept_for(answers: &[u8], k: usize) -> &[u8] {
 }
 
 // Makes the calls that are steps of the bank.
-fn run_lone<'a>(reporters: &'a [u8], book: &mut [u8], answers: &'a [u8], bank: usize) -> Tally {
+fn run_lone<'a>(reporters: &'a [u8], ledger: &mut [u8], answers: &'a [u8], bank: usize) -> Tally {
     let mut tally = Tally {
         calls: 0,
         booked: 0,
@@ -124,7 +124,7 @@ fn run_lone<'a>(reporters: &'a [u8], book: &mut [u8], answers: &'a [u8], bank: u
     let mut k = 0;
     while k < CALLS {
         let call = crate::drawn::call_of(seed);
-        tally = step(tally, reporters, book, call, bank, kept_for(answers, k));
+        tally = step(tally, reporters, ledger, call, bank, kept_for(answers, k));
         seed = crate::drawn::next(seed);
         k += 1;
     }
@@ -132,18 +132,18 @@ fn run_lone<'a>(reporters: &'a [u8], book: &mut [u8], answers: &'a [u8], bank: u
 }
 
 // The compartment of a bank.
-fn compartment(book: &[u8], bank: usize) -> &[u8] {
+fn compartment(ledger: &[u8], bank: usize) -> &[u8] {
     text::front(
-        text::rest(book, bank % BANKS * COMPARTMENT_SIZE),
+        text::rest(ledger, bank % BANKS * COMPARTMENT_SIZE),
         COMPARTMENT_SIZE,
     )
 }
 
 // Runs a bank alone, and prints whether its answers and its compartment are those of the list.
-fn compare<'a>(reporters: &'a [u8], book: &'a [u8], answers: &'a [u8], bank: usize) {
+fn compare<'a>(reporters: &'a [u8], ledger: &'a [u8], answers: &'a [u8], bank: usize) {
     let mut own = [0u8; 32768];
     let tally = run_lone(reporters, &mut own, answers, bank);
-    let same = text::same(compartment(&own, bank), compartment(book, bank));
+    let same = text::same(compartment(&own, bank), compartment(ledger, bank));
     print_count(b"bank ", bank as u64);
     print_count(b" calls ", tally.calls);
     print_count(b" booked ", tally.booked);
@@ -155,10 +155,10 @@ fn compare<'a>(reporters: &'a [u8], book: &'a [u8], answers: &'a [u8], bank: usi
 }
 
 // Compares each bank.
-fn compare_all<'a>(reporters: &'a [u8], book: &'a [u8], answers: &'a [u8]) {
+fn compare_all<'a>(reporters: &'a [u8], ledger: &'a [u8], answers: &'a [u8]) {
     let mut bank = 0;
     while bank < BANKS {
-        compare(reporters, book, answers, bank);
+        compare(reporters, ledger, answers, bank);
         bank += 1;
     }
 }
@@ -196,10 +196,10 @@ fn print_totals(answers: &[u8]) {
 // Makes the list, and compares each bank with its lone run.
 pub(crate) fn run() {
     let mut table = [0u8; 512];
-    let mut book = [0u8; 32768];
+    let mut ledger = [0u8; 32768];
     let mut answers = [0u8; 65536];
     crate::banks::write_table(&mut table);
-    run_list(&table, &mut book, &mut answers);
-    compare_all(&table, &book, &answers);
+    run_list(&table, &mut ledger, &mut answers);
+    compare_all(&table, &ledger, &answers);
     print_totals(&answers);
 }

@@ -14,11 +14,11 @@ use disk::load_or_fail;
 fn main() {
     let mut table = [0u8; 512];
     let mut file = io::buffer();
-    let mut book = [0u8; 32768];
+    let mut ledger = [0u8; 32768];
     let rows = load_or_fail(b"reporters.ref", &mut table);
     let n = load_or_fail(b"worked.txt", &mut file);
     let reporters = text::front(&table, rows);
-    worked::run(reporters, &mut book, text::front(&file, n));
-    refused::run(reporters, &mut book);
+    worked::run(reporters, &mut ledger, text::front(&file, n));
+    refused::run(reporters, &mut ledger);
     list::run();
 }

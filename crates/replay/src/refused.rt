@@ -23,14 +23,14 @@ fn print_reply(reply: Replied) {
 fn call<'a>(
     reporters: &'a [u8],
     currencies: &'a [u8],
-    book: &mut [u8],
-    from: &'a [u8],
+    ledger: &mut [u8],
+    sender: &'a [u8],
     record: &'a [u8],
 ) {
     let mut room = [0u8; 32768];
-    let end = append(&mut room, 0, book);
-    print_reply(calls::record_call(reporters, currencies, book, from, record));
-    if text::same(book, text::front(&room, end)) {
+    let end = append(&mut room, 0, ledger);
+    print_reply(calls::record_call(reporters, currencies, ledger, sender, record));
+    if text::same(ledger, text::front(&room, end)) {
         io::write_all(STDOUT_FILENO, b" kept\n");
     } else {
         io::write_all(STDOUT_FILENO, b" changed\n");
@@ -38,47 +38,47 @@ fn call<'a>(
 }
 
 // Calls on tables and ledgers that are not as they should be.
-fn lent<'a>(reporters: &'a [u8], book: &mut [u8], record: &'a [u8]) {
+fn lent<'a>(reporters: &'a [u8], ledger: &mut [u8], record: &'a [u8]) {
     let mut short = [0u8; 32767];
     call(
         text::front(reporters, 33),
         b"CHFEURUSD",
-        book,
+        ledger,
         b"MBONE",
         record,
     );
-    call(reporters, b"XXX", book, b"MBONE", record);
+    call(reporters, b"XXX", ledger, b"MBONE", record);
     call(reporters, b"CHFEURUSD", &mut short, b"MBONE", record);
 }
 
 // Calls of senders that are no names.
-fn senders<'a>(reporters: &'a [u8], book: &mut [u8], record: &'a [u8]) {
+fn senders<'a>(reporters: &'a [u8], ledger: &mut [u8], record: &'a [u8]) {
     call(
         reporters,
         b"CHFEURUSD",
-        book,
+        ledger,
         text::front(b"MBONE", 0),
         record,
     );
-    call(reporters, b"CHFEURUSD", book, b"MBONEMBON", record);
-    call(reporters, b"CHFEURUSD", book, b"mbone", record);
+    call(reporters, b"CHFEURUSD", ledger, b"MBONEMBON", record);
+    call(reporters, b"CHFEURUSD", ledger, b"mbone", record);
 }
 
 // Calls with a record, the rest being as it should be.
-fn submit<'a>(reporters: &'a [u8], book: &mut [u8], record: &'a [u8]) {
-    call(reporters, b"CHFEURUSD", book, b"MBONE", record);
+fn submit<'a>(reporters: &'a [u8], ledger: &mut [u8], record: &'a [u8]) {
+    call(reporters, b"CHFEURUSD", ledger, b"MBONE", record);
 }
 
 // Calls with the record, another byte in its field 4.
-fn damaged<'a>(reporters: &'a [u8], book: &mut [u8], record: &'a [u8], byte: u8) {
+fn damaged<'a>(reporters: &'a [u8], ledger: &mut [u8], record: &'a [u8], byte: u8) {
     let mut room = [0u8; 256];
     let end = append(&mut room, 0, record);
     room[IN_FIELD_4] = byte;
-    submit(reporters, book, text::front(&room, end));
+    submit(reporters, ledger, text::front(&room, end));
 }
 
 // Calls with a record of n bytes, whose field 10, which nothing judges, is as long as it takes.
-fn long<'a>(reporters: &'a [u8], book: &mut [u8], record: &'a [u8], n: usize) {
+fn long<'a>(reporters: &'a [u8], ledger: &mut [u8], record: &'a [u8], n: usize) {
     let mut room = [b'X'; 32769];
     append(&mut room, 0, text::front(record, FIELD_10));
     let tail = text::rest(record, FIELD_10);
@@ -86,22 +86,22 @@ fn long<'a>(reporters: &'a [u8], book: &mut [u8], record: &'a [u8], n: usize) {
         return;
     }
     append(&mut room, n - tail.len(), tail);
-    submit(reporters, book, text::front(&room, n));
+    submit(reporters, ledger, text::front(&room, n));
 }
 
 // Calls with records that are none; a byte shorter, the last one is a record, and is booked.
-fn records<'a>(reporters: &'a [u8], book: &mut [u8], record: &'a [u8]) {
-    damaged(reporters, book, record, b'\'');
-    damaged(reporters, book, record, b'\n');
-    long(reporters, book, record, 32769);
-    long(reporters, book, record, 32768);
+fn records<'a>(reporters: &'a [u8], ledger: &mut [u8], record: &'a [u8]) {
+    damaged(reporters, ledger, record, b'\'');
+    damaged(reporters, ledger, record, b'\n');
+    long(reporters, ledger, record, 32769);
+    long(reporters, ledger, record, 32768);
 }
 
 // All these calls. The record that they share has no fault.
-pub(crate) fn run(reporters: &[u8], book: &mut [u8]) {
+pub(crate) fn run(reporters: &[u8], ledger: &mut [u8]) {
     let record =
         b"B;98001;I;4711;;;B;20130903;101500;;;;;WBAH;J;;;N;S;AT0000831706;XXX;1500;1;EUR;54,7;;;K;;;;;;;;;;N;C1";
-    lent(reporters, book, record);
-    senders(reporters, book, record);
-    records(reporters, book, record);
+    lent(reporters, ledger, record);
+    senders(reporters, ledger, record);
+    records(reporters, ledger, record);
 }

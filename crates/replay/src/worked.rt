@@ -23,29 +23,29 @@ fn print_reply(reply: Replied) {
 }
 
 // Prints row 0 or 1 of compartment 0.
-fn print_row(book: &[u8], second: bool) {
+fn print_row(ledger: &[u8], second: bool) {
     if second {
         io::write_all(STDOUT_FILENO, b"row 1 ");
-        print_bytes(text::front(text::rest(book, 32), 32));
+        print_bytes(text::front(text::rest(ledger, 32), 32));
     } else {
         io::write_all(STDOUT_FILENO, b"row 0 ");
-        print_bytes(text::front(book, 32));
+        print_bytes(text::front(ledger, 32));
     }
     io::write_all(STDOUT_FILENO, b"\n");
 }
 
 // Calls record k, prints what it answers, and row 0 behind the first.
-fn call<'a>(k: usize, reporters: &'a [u8], book: &mut [u8], record: &'a [u8]) {
+fn call<'a>(k: usize, reporters: &'a [u8], ledger: &mut [u8], record: &'a [u8]) {
     print_count(b"record ", k as u64);
     io::write_all(STDOUT_FILENO, b" ");
-    print_reply(calls::record_call(reporters, b"CHFEURUSD", book, b"MBONE", record));
+    print_reply(calls::record_call(reporters, b"CHFEURUSD", ledger, b"MBONE", record));
     if k == 1 {
-        print_row(book, false);
+        print_row(ledger, false);
     }
 }
 
 // Calls the records of a file, one a line.
-fn records<'a>(reporters: &'a [u8], book: &mut [u8], file: &'a [u8]) {
+fn records<'a>(reporters: &'a [u8], ledger: &mut [u8], file: &'a [u8]) {
     let mut k = 0;
     let mut at = 0;
     while at < file.len() {
@@ -53,7 +53,7 @@ fn records<'a>(reporters: &'a [u8], book: &mut [u8], file: &'a [u8]) {
         call(
             k,
             reporters,
-            book,
+            ledger,
             words::before(text::rest(file, at), b'\n'),
         );
         at = words::next(file, at, b'\n');
@@ -61,8 +61,8 @@ fn records<'a>(reporters: &'a [u8], book: &mut [u8], file: &'a [u8]) {
 }
 
 // Calls the records of a file, and prints rows 0 and 1 behind the last.
-pub(crate) fn run<'a>(reporters: &'a [u8], book: &mut [u8], file: &'a [u8]) {
-    records(reporters, book, file);
-    print_row(book, false);
-    print_row(book, true);
+pub(crate) fn run<'a>(reporters: &'a [u8], ledger: &mut [u8], file: &'a [u8]) {
+    records(reporters, ledger, file);
+    print_row(ledger, false);
+    print_row(ledger, true);
 }

@@ -49,16 +49,16 @@ fn print(page: &[u8], end: usize) {
 }
 
 // Files the report. The ledger is saved before a line claims that something was booked.
-fn run<'a>(file: &'a [u8], reporters: &'a [u8], currencies: &'a [u8], book: &mut [u8]) {
+fn run<'a>(file: &'a [u8], reporters: &'a [u8], currencies: &'a [u8], ledger: &mut [u8]) {
     let mut answers = [0u8; ANSWERS_ROOM];
     let mut page = [0u8; PAGE_ROOM];
-    match calls::filing::file_call(file, reporters, currencies, book, &mut answers) {
+    match calls::filing::file_call(file, reporters, currencies, ledger, &mut answers) {
         Filed::Refused(n) => {
             let end = results::refused(&mut page, n);
             print(&page, end);
         }
         Filed::Count(n) => {
-            if save::save(book) {
+            if save::save(ledger) {
                 let end = results::accepted(&mut page, &answers, n);
                 print(&page, end);
             }
@@ -69,20 +69,20 @@ fn run<'a>(file: &'a [u8], reporters: &'a [u8], currencies: &'a [u8], book: &mut
 // Reads the four files, and files the report where all of them could be read.
 fn main() {
     let mut file = [0u8; REPORT_ROOM];
-    let mut table = [0u8; REPORTERS_ROOM];
-    let mut list = [0u8; CURRENCIES_ROOM];
-    let mut book = [0u8; LEDGER_ROOM];
+    let mut reporters = [0u8; REPORTERS_ROOM];
+    let mut currencies = [0u8; CURRENCIES_ROOM];
+    let mut ledger = [0u8; LEDGER_ROOM];
     let report = load(b"report.edi", &mut file);
-    let reporters = load(b"reporters.ref", &mut table);
-    let currencies = load(b"currency.ref", &mut list);
-    let ledger = load(b"ledger.dat", &mut book);
-    if report.readable & reporters.readable & currencies.readable & ledger.readable {
-        let n = ledger.bytes;
+    let rows = load(b"reporters.ref", &mut reporters);
+    let codes = load(b"currency.ref", &mut currencies);
+    let booked = load(b"ledger.dat", &mut ledger);
+    if report.readable & rows.readable & codes.readable & booked.readable {
+        let n = booked.bytes;
         run(
             text::front(&file, report.bytes),
-            text::front(&table, reporters.bytes),
-            text::front(&list, currencies.bytes),
-            &mut book[..n],
+            text::front(&reporters, rows.bytes),
+            text::front(&currencies, codes.bytes),
+            &mut ledger[..n],
         );
     }
 }

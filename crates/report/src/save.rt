@@ -29,10 +29,10 @@ fn give_up(doing: &[u8], path: &[u8]) -> bool {
 }
 
 // Saves the ledger. Where that fails an older ledger.new stays as it is.
-pub(crate) fn save(book: &[u8]) -> bool {
+pub(crate) fn save(ledger: &[u8]) -> bool {
     // what a run that was stopped has left
     os::unlink(b"ledger.tmp");
-    if !write_new(b"ledger.tmp", book) {
+    if !write_new(b"ledger.tmp", ledger) {
         return give_up(b"cannot write ", b"ledger.tmp");
     }
     if os::rename(b"ledger.tmp", b"ledger.new") != 0 {

@@ -9,15 +9,15 @@ use words::behind;
 fn failures_of<'a>(
     reporters: &'a [u8],
     currencies: &'a [u8],
-    from: &'a [u8],
-    s: &'a [u8],
+    sender: &'a [u8],
+    record: &'a [u8],
 ) -> Failures {
-    let stops = fields::index(s);
+    let stops = fields::index(record);
     let whole = fields::is_whole(&stops);
-    let f1 = fields::part(s, &stops, 1);
-    let f2 = fields::part(s, &stops, 2);
-    match sender::check(reporters, from, whole, f1, f2) {
-        Checked::Passed(row) => checks::judge(reporters, currencies, row, s, &stops),
+    let f1 = fields::part(record, &stops, 1);
+    let f2 = fields::part(record, &stops, 2);
+    match sender::check(reporters, sender, whole, f1, f2) {
+        Checked::Passed(row) => checks::judge(reporters, currencies, row, record, &stops),
         Checked::Failed(failed) => failed,
     }
 }

@@ -5,10 +5,10 @@ use Rattle.files.proofs.lines.Statement.{statement}
 use Rattle.files.proofs.lines.Tie as tie
 
 abbrev Inv-loop : tie.InvT-loop
-Inv-loop cases file reporters currencies book answers at₀ at = Unit {0}
+Inv-loop cases file reporters currencies ledger answers at₀ at = Unit {0}
 
 abbrev μ-loop : tie.MeasureT-loop
-μ-loop cases file reporters currencies book answers at₀ at = length cases - at
+μ-loop cases file reporters currencies ledger answers at₀ at = length cases - at
 
 loop-less : tie.Need-loop-less Inv-loop μ-loop
 loop-less c = next-less _ _ (c .next .ensures) (c .before .before .before .before .loop-test .taken)

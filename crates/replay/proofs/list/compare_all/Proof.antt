@@ -4,10 +4,10 @@ use Rattle.replay.proofs.list.compare_all.Statement.{statement}
 use Rattle.replay.proofs.list.compare_all.Tie as tie
 
 abbrev Inv-loop : tie.InvT-loop
-Inv-loop reporters book answers bank₀ bank = bank ≤ 16
+Inv-loop reporters ledger answers bank₀ bank = bank ≤ 16
 
 abbrev μ-loop : tie.MeasureT-loop
-μ-loop reporters book answers bank₀ bank = 16 - bank
+μ-loop reporters ledger answers bank₀ bank = 16 - bank
 
 loop-holds : tie.Need-loop-holds Inv-loop μ-loop
 loop-holds c = search needs

@@ -6,10 +6,10 @@ use Rattle.replay.proofs.list.run_list.Statement.{statement}
 use Rattle.replay.proofs.list.run_list.Tie as tie
 
 abbrev Inv-loop : tie.InvT-loop
-Inv-loop reporters book₀ answers₀ seed₀ k₀ book answers seed k = (length book ≡ length book₀) × (length answers ≡ length answers₀) × (k ≤ 4096)
+Inv-loop reporters ledger₀ answers₀ seed₀ k₀ ledger answers seed k = (length ledger ≡ length ledger₀) × (length answers ≡ length answers₀) × (k ≤ 4096)
 
 abbrev μ-loop : tie.MeasureT-loop
-μ-loop reporters book₀ answers₀ seed₀ k₀ book answers seed k = 4096 - k
+μ-loop reporters ledger₀ answers₀ seed₀ k₀ ledger answers seed k = 4096 - k
 
 loop-holds : tie.Need-loop-holds Inv-loop μ-loop
 loop-holds c = search needs

@@ -6,10 +6,10 @@ use Rattle.replay.proofs.list.run_lone.Statement.{statement}
 use Rattle.replay.proofs.list.run_lone.Tie as tie
 
 abbrev Inv-loop : tie.InvT-loop
-Inv-loop reporters book₀ answers bank tally₀ seed₀ k₀ book tally seed k = (length book ≡ length book₀) × (k ≤ 4096)
+Inv-loop reporters ledger₀ answers bank tally₀ seed₀ k₀ ledger tally seed k = (length ledger ≡ length ledger₀) × (k ≤ 4096)
 
 abbrev μ-loop : tie.MeasureT-loop
-μ-loop reporters book₀ answers bank tally₀ seed₀ k₀ book tally seed k = 4096 - k
+μ-loop reporters ledger₀ answers bank tally₀ seed₀ k₀ ledger tally seed k = 4096 - k
 
 loop-holds : tie.Need-loop-holds Inv-loop μ-loop
 loop-holds c = search needs

@@ -8,10 +8,10 @@ use Rattle.replay.proofs.worked.records.Statement.{statement}
 use Rattle.replay.proofs.worked.records.Tie as tie
 
 abbrev Inv-loop : tie.InvT-loop
-Inv-loop reporters book₀ file k₀ at₀ book k at = (length book ≡ length book₀) × (k ≤ at)
+Inv-loop reporters ledger₀ file k₀ at₀ ledger k at = (length ledger ≡ length ledger₀) × (k ≤ at)
 
 abbrev μ-loop : tie.MeasureT-loop
-μ-loop reporters book₀ file k₀ at₀ book k at = length file - at
+μ-loop reporters ledger₀ file k₀ at₀ ledger k at = length file - at
 
 loop-holds : tie.Need-loop-holds Inv-loop μ-loop
 loop-holds c = search needs
