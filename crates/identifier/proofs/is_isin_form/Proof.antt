@@ -6,7 +6,12 @@ use Rattle.identifier.proofs.is_isin_form.Tie as tie
 
 returns : tie.Need-returns
 unfolding isinForm
-returns c = rw (eq-eqb _ _ (c .before .before .before .before .before .before .before .if1 .taken)) (cc)
+returns c =
+    let letters = c .before .before .before .before .before in
+    let middle = c .before .before in
+    rw (eq-eqb _ _ (letters .before .before .if1 .taken))
+    (rw (letters .all .ensures, letters .before .front .ensures .bytes, middle .all2 .ensures, middle .before .front2 .ensures .bytes)
+    (rw (middle .before .before .rest .ensures .bytes, c .all3 .ensures, c .before .rest2 .ensures .bytes) refl))
 
 returns-2 : tie.Need-returns-2
 unfolding isinForm
