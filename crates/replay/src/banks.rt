@@ -1,46 +1,25 @@
-// Sixteen banks: 10000 to 10015, AAAAAT00XXX to AAAAAT15XXX, each with a mailbox of its own but for the second, which has the first's.
-use crate::piece::append_digits;
-use page::append;
+// Sixteen banks, each with a mailbox of its own but for the second, which has the first's: what stands in a bank's row of the reporters table.
 
 pub(crate) const BANKS: usize = 16;
 
 const REPORTER_SIZE: usize = 32;
 
-// Writes the code of a bank.
-pub(crate) fn append_code(out: &mut [u8], at: usize, bank: usize) -> usize {
-    let end = append(out, at, b"100");
-    append_digits(out, end, bank)
+// The bytes of a bank's row from a place on.
+fn row_from(reporters: &[u8], bank: usize, place: usize) -> &[u8] {
+    text::rest(text::rest(reporters, bank % BANKS * REPORTER_SIZE), place)
 }
 
-// Writes the address of a bank.
-pub(crate) fn append_address(out: &mut [u8], at: usize, bank: usize) -> usize {
-    let name = append(out, at, b"AAAAAT");
-    let end = append_digits(out, name, bank);
-    append(out, end, b"XXX")
+// The code of a bank.
+pub(crate) fn code(reporters: &[u8], bank: usize) -> &[u8] {
+    text::front(row_from(reporters, bank, 0), 5)
 }
 
-// Writes the mailbox of a bank.
-pub(crate) fn append_mailbox(out: &mut [u8], at: usize, bank: usize) -> usize {
-    let end = append(out, at, b"BOX");
-    if bank == 1 {
-        return append_digits(out, end, 0);
-    }
-    append_digits(out, end, bank)
+// The address of a bank.
+pub(crate) fn address(reporters: &[u8], bank: usize) -> &[u8] {
+    text::front(row_from(reporters, bank, 5), 11)
 }
 
-// Writes a bank's row of the reporters table.
-fn write_row(table: &mut [u8], bank: usize) {
-    let code = append_code(table, bank % BANKS * REPORTER_SIZE, bank);
-    let address = append_address(table, code, bank);
-    let mailbox = append_mailbox(table, address, bank);
-    append(table, mailbox, b"   ");
-}
-
-// Writes the reporters table.
-pub(crate) fn write_table(table: &mut [u8]) {
-    let mut bank = 0;
-    while bank < BANKS {
-        write_row(table, bank);
-        bank += 1;
-    }
+// The mailbox of a bank, whose name has no space.
+pub(crate) fn mailbox(reporters: &[u8], bank: usize) -> &[u8] {
+    words::before(row_from(reporters, bank, 16), b' ')
 }

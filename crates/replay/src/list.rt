@@ -42,11 +42,11 @@ fn answer_of(reply: Replied) -> Answer {
 
 // Makes a call.
 fn answer_to(reporters: &[u8], ledger: &mut [u8], call: Call) -> Answer {
-    let mut name = [0u8; 16];
+    let template =
+        b"k;r;I;47m1;;;s;20130903;101500;;;;;WBAH;J;c;;N;S;AT0000831706;XXX;q;1;e;54,7;;;K;;;;;;;;;;N;Nn";
     let mut room = [0u8; 256];
-    let k = crate::message::write_sender(&mut name, call);
-    let n = crate::message::write_record(&mut room, call);
-    let sender = text::front(&name, k);
+    let n = crate::message::write_record(&mut room, template, reporters, call);
+    let sender = crate::message::sender_of(reporters, call);
     let record = text::front(&room, n);
     answer_of(calls::record_call(reporters, b"CHFEURUSD", ledger, sender, record))
 }
@@ -141,7 +141,7 @@ fn compartment(ledger: &[u8], bank: usize) -> &[u8] {
 
 // Runs a bank alone, and prints whether its answers and its compartment are those of the list.
 fn compare<'a>(reporters: &'a [u8], ledger: &'a [u8], answers: &'a [u8], bank: usize) {
-    let mut own = [0u8; 32768];
+    let mut own = crate::empty_ledger();
     let tally = run_lone(reporters, &mut own, answers, bank);
     let same = text::same(compartment(&own, bank), compartment(ledger, bank));
     print_count(b"bank ", bank as u64);
@@ -195,11 +195,11 @@ fn print_totals(answers: &[u8]) {
 
 // Makes the list, and compares each bank with its lone run.
 pub(crate) fn run() {
-    let mut table = [0u8; 512];
-    let mut ledger = [0u8; 32768];
-    let mut answers = [0u8; 65536];
-    crate::banks::write_table(&mut table);
-    run_list(&table, &mut ledger, &mut answers);
-    compare_all(&table, &ledger, &answers);
+    let mut reporters = [0u8; 512];
+    let mut ledger = crate::empty_ledger();
+    let mut answers = io::large_buffer();
+    disk::load_or_fail(b"banks.ref", &mut reporters);
+    run_list(&reporters, &mut ledger, &mut answers);
+    compare_all(&reporters, &ledger, &answers);
     print_totals(&answers);
 }

@@ -1,99 +1,112 @@
 // The sender and the record of a drawn call, as text.
 use crate::banks::BANKS;
-use crate::banks::append_address;
-use crate::banks::append_code;
-use crate::banks::append_mailbox;
 use crate::drawn::Call;
 use crate::drawn::Flaw;
-use crate::piece::append_digits;
 use page::append;
 
-// Writes the sender, and answers its length.
-pub(crate) fn write_sender(out: &mut [u8], call: Call) -> usize {
+// The sender: the bank's mailbox, another bank's, or no name at all.
+pub(crate) fn sender_of(reporters: &[u8], call: Call) -> &[u8] {
     let flaw = call.flaw;
     match flaw {
-        Flaw::Sender => append(out, 0, b"box"),
-        Flaw::Mailbox => append_mailbox(out, 0, (call.bank % BANKS + 2) % BANKS),
-        _ => append_mailbox(out, 0, call.bank),
+        Flaw::Sender => text::front(reporters, 0),
+        Flaw::Mailbox => crate::banks::mailbox(reporters, (call.bank % BANKS + 2) % BANKS),
+        _ => crate::banks::mailbox(reporters, call.bank),
     }
 }
 
-// Writes fields 1 and 2.
-fn write_reporter(out: &mut [u8], call: Call) -> usize {
+// Field 2: the bank's code or its address, or its mailbox, which is neither.
+fn reporter_of(reporters: &[u8], call: Call) -> &[u8] {
     let flaw = call.flaw;
     if let Flaw::Bank = flaw {
-        return append(out, 0, b"B;99999");
+        return crate::banks::mailbox(reporters, call.bank);
     }
     if call.by_address {
-        append(out, 0, b"S;");
-        return append_address(out, 2, call.bank);
+        return crate::banks::address(reporters, call.bank);
     }
-    append(out, 0, b"B;");
-    append_code(out, 2, call.bank)
+    crate::banks::code(reporters, call.bank)
 }
 
-// Writes fields 3 to 6.
-fn append_client(out: &mut [u8], at: usize, flaw: Flaw) -> usize {
-    match flaw {
-        Flaw::Apostrophe => append(out, at, b";I;47'1;;;"),
-        _ => append(out, at, b";I;4711;;;"),
+// The byte for a slot of one byte: field 1, a byte of field 4, field 7. Any other byte stands for itself.
+fn byte_of(slot: u8, call: Call) -> u8 {
+    let flaw = call.flaw;
+    match slot {
+        b'k' => if call.by_address { b'S' } else { b'B' },
+        b'm' => mark_of(flaw),
+        b's' => if call.sells { b'S' } else { b'B' },
+        _ => slot,
     }
 }
 
-// Writes field 7.
-fn append_side(out: &mut [u8], at: usize, sells: bool) -> usize {
-    if sells {
-        return append(out, at, b"S");
+// A byte of field 4, which may be an apostrophe.
+fn mark_of(flaw: Flaw) -> u8 {
+    if let Flaw::Apostrophe = flaw {
+        return b'\'';
     }
-    append(out, at, b"B")
+    b'1'
 }
 
-// Writes a number.
-fn append_number(out: &mut [u8], at: usize, number: usize) -> usize {
-    let end = append(out, at, b"N");
-    append_digits(out, end, number)
+// The last decimal digit of n, as text.
+fn digit(n: usize) -> u8 {
+    (n % 10) as u8 + 48
+}
+
+// Writes the last two decimal digits of n.
+fn append_digits(out: &mut [u8], at: usize, n: usize) -> usize {
+    let digits = [digit(n / 10), digit(n)];
+    append(out, at, &digits)
 }
 
 // Writes field 16.
 fn append_named(out: &mut [u8], at: usize, call: Call) -> usize {
     if call.cancels {
-        return append_number(out, at, call.named);
+        let end = append(out, at, b"N");
+        return append_digits(out, end, call.named);
     }
     at
 }
 
+// Where the code of field 24 stands among three that are listed and one that is not.
+fn currency_place(call: Call) -> usize {
+    let flaw = call.flaw;
+    if let Flaw::Currency = flaw {
+        return 9;
+    }
+    call.currency % 3 * 3
+}
+
 // Writes field 24.
 fn append_currency(out: &mut [u8], at: usize, call: Call) -> usize {
-    let flaw = call.flaw;
-    let place = call.currency % 3 * 3;
-    match flaw {
-        Flaw::Currency => append(out, at, b"GBP"),
-        _ => append(out, at, text::front(text::rest(b"CHFEURUSD", place), 3)),
+    append(
+        out,
+        at,
+        text::front(text::rest(b"CHFEURUSDGBP", currency_place(call)), 3),
+    )
+}
+
+// Writes what a byte of the template stands for.
+fn append_slot<'a>(out: &mut [u8], at: usize, slot: u8, reporters: &'a [u8], call: Call) -> usize {
+    match slot {
+        b'r' => append(out, at, reporter_of(reporters, call)),
+        b'c' => append_named(out, at, call),
+        b'q' => append_digits(out, at, call.quantity),
+        b'e' => append_currency(out, at, call),
+        b'n' => append_digits(out, at, call.number),
+        _ => append(out, at, &[byte_of(slot, call)]),
     }
 }
 
-// Writes fields 1 to 15.
-fn write_trade(out: &mut [u8], call: Call) -> usize {
-    let flaw = call.flaw;
-    let reporter = write_reporter(out, call);
-    let client = append_client(out, reporter, flaw);
-    let side = append_side(out, client, call.sells);
-    append(out, side, b";20130903;101500;;;;;WBAH;J;")
-}
-
-// Writes fields 17 to 24.
-fn append_terms(out: &mut [u8], at: usize, call: Call) -> usize {
-    let isin = append(out, at, b";;N;S;AT0000831706;XXX;");
-    let quantity = append_digits(out, isin, call.quantity);
-    let unit = append(out, quantity, b";1;");
-    append_currency(out, unit, call)
-}
-
-// Writes the record, and answers its length.
-pub(crate) fn write_record(out: &mut [u8], call: Call) -> usize {
-    let trade = write_trade(out, call);
-    let named = append_named(out, trade, call);
-    let terms = append_terms(out, named, call);
-    let rest = append(out, terms, b";54,7;;;K;;;;;;;;;;N;");
-    append_number(out, rest, call.number)
+// Writes the record, which is the template with its small letters replaced, and answers its length.
+pub(crate) fn write_record<'a>(
+    out: &mut [u8],
+    template: &'a [u8],
+    reporters: &'a [u8],
+    call: Call,
+) -> usize {
+    let mut end = 0;
+    let mut i = 0;
+    while i < template.len() {
+        end = append_slot(out, end, template[i], reporters, call);
+        i += 1;
+    }
+    end
 }

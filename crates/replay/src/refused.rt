@@ -1,13 +1,20 @@
 // Calls that are refused, each with a single fault, and whether the ledger is kept.
+ghost use mathlib.Core.Path.{_≡_};
+ghost use lib.ListN.{length};
 use crate::print::print_count;
 use calls::Replied;
 use libc::STDOUT_FILENO;
 use page::append;
 
-// Where field 10 begins in the record that the calls share, and the third byte of its field 4.
+// Where field 10, which nothing judges, begins in the record that the calls share.
 const FIELD_10: usize = 35;
 
-const IN_FIELD_4: usize = 12;
+// Room for a record that is a byte too long, and for a ledger.
+fn empty_room() -> [u8; 32769]
+    ensures { λ r. ⌜ 32769 ≡ length r ⌝ }
+{
+    [0u8; 32769]
+}
 
 // Prints the number of a refusal.
 fn print_reply(reply: Replied) {
@@ -27,7 +34,7 @@ fn call<'a>(
     sender: &'a [u8],
     record: &'a [u8],
 ) {
-    let mut room = [0u8; 32768];
+    let mut room = empty_room();
     let end = append(&mut room, 0, ledger);
     print_reply(calls::record_call(reporters, currencies, ledger, sender, record));
     if text::same(ledger, text::front(&room, end)) {
@@ -38,70 +45,88 @@ fn call<'a>(
 }
 
 // Calls on tables and ledgers that are not as they should be.
-fn lent<'a>(reporters: &'a [u8], ledger: &mut [u8], record: &'a [u8]) {
-    let mut short = [0u8; 32767];
+fn lent<'a>(
+    reporters: &'a [u8],
+    currencies: &'a [u8],
+    ledger: &mut [u8],
+    sender: &'a [u8],
+    record: &'a [u8],
+) {
+    let mut long = empty_room();
     call(
         text::front(reporters, 33),
-        b"CHFEURUSD",
+        currencies,
         ledger,
-        b"MBONE",
+        sender,
         record,
     );
-    call(reporters, b"XXX", ledger, b"MBONE", record);
-    call(reporters, b"CHFEURUSD", &mut short, b"MBONE", record);
+    call(reporters, b"XXX", ledger, sender, record);
+    call(reporters, currencies, &mut long, sender, record);
 }
 
 // Calls of senders that are no names.
-fn senders<'a>(reporters: &'a [u8], ledger: &mut [u8], record: &'a [u8]) {
+fn senders<'a>(
+    reporters: &'a [u8],
+    currencies: &'a [u8],
+    ledger: &mut [u8],
+    sender: &'a [u8],
+    record: &'a [u8],
+) {
     call(
         reporters,
-        b"CHFEURUSD",
+        currencies,
         ledger,
-        text::front(b"MBONE", 0),
+        text::front(sender, 0),
         record,
     );
-    call(reporters, b"CHFEURUSD", ledger, b"MBONEMBON", record);
-    call(reporters, b"CHFEURUSD", ledger, b"mbone", record);
+    call(reporters, currencies, ledger, b"MBONEMBON", record);
+    call(reporters, currencies, ledger, b"mbone", record);
 }
 
-// Calls with a record, the rest being as it should be.
-fn submit<'a>(reporters: &'a [u8], ledger: &mut [u8], record: &'a [u8]) {
-    call(reporters, b"CHFEURUSD", ledger, b"MBONE", record);
-}
-
-// Calls with the record, another byte in its field 4.
-fn damaged<'a>(reporters: &'a [u8], ledger: &mut [u8], record: &'a [u8], byte: u8) {
-    let mut room = [0u8; 256];
-    let end = append(&mut room, 0, record);
-    room[IN_FIELD_4] = byte;
-    submit(reporters, ledger, text::front(&room, end));
-}
-
-// Calls with a record of n bytes, whose field 10, which nothing judges, is as long as it takes.
-fn long<'a>(reporters: &'a [u8], ledger: &mut [u8], record: &'a [u8], n: usize) {
-    let mut room = [b'X'; 32769];
-    append(&mut room, 0, text::front(record, FIELD_10));
-    let tail = text::rest(record, FIELD_10);
-    if n < tail.len() {
-        return;
-    }
-    append(&mut room, n - tail.len(), tail);
-    submit(reporters, ledger, text::front(&room, n));
+// Calls with the record, a byte put in at its field 10 so many times.
+fn extended<'a>(
+    reporters: &'a [u8],
+    currencies: &'a [u8],
+    ledger: &mut [u8],
+    sender: &'a [u8],
+    record: &'a [u8],
+    times: usize,
+    byte: u8,
+) {
+    let mut room = empty_room();
+    let head = append(&mut room, 0, text::front(record, FIELD_10));
+    let put = words::append_times(&mut room, head, times, &[byte]);
+    let end = append(&mut room, put, text::rest(record, FIELD_10));
+    call(
+        reporters,
+        currencies,
+        ledger,
+        sender,
+        text::front(&room, end),
+    );
 }
 
 // Calls with records that are none; a byte shorter, the last one is a record, and is booked.
-fn records<'a>(reporters: &'a [u8], ledger: &mut [u8], record: &'a [u8]) {
-    damaged(reporters, ledger, record, b'\'');
-    damaged(reporters, ledger, record, b'\n');
-    long(reporters, ledger, record, 32769);
-    long(reporters, ledger, record, 32768);
+fn records<'a>(
+    reporters: &'a [u8],
+    currencies: &'a [u8],
+    ledger: &mut [u8],
+    sender: &'a [u8],
+    record: &'a [u8],
+) {
+    extended(reporters, currencies, ledger, sender, record, 1, b'\'');
+    extended(reporters, currencies, ledger, sender, record, 1, b'\n');
+    extended(reporters, currencies, ledger, sender, record, 32667, b'X');
+    extended(reporters, currencies, ledger, sender, record, 32666, b'X');
 }
 
-// All these calls. The record that they share has no fault.
+// All these calls. What they share has no fault.
 pub(crate) fn run(reporters: &[u8], ledger: &mut [u8]) {
-    let record =
+    let currencies: &[u8] = b"CHFEURUSD";
+    let sender: &[u8] = b"MBONE";
+    let record: &[u8] =
         b"B;98001;I;4711;;;B;20130903;101500;;;;;WBAH;J;;;N;S;AT0000831706;XXX;1500;1;EUR;54,7;;;K;;;;;;;;;;N;C1";
-    lent(reporters, ledger, record);
-    senders(reporters, ledger, record);
-    records(reporters, ledger, record);
+    lent(reporters, currencies, ledger, sender, record);
+    senders(reporters, currencies, ledger, sender, record);
+    records(reporters, currencies, ledger, sender, record);
 }

@@ -4,6 +4,8 @@ use crate::print::print_count;
 use answer::ANSWER_SIZE;
 use answer::Answer;
 use calls::Replied;
+use ledger::ROW_COUNT;
+use ledger::ROW_SIZE;
 use libc::STDOUT_FILENO;
 
 // Prints the sixteen bytes of an answer.
@@ -22,15 +24,11 @@ fn print_reply(reply: Replied) {
     io::write_all(STDOUT_FILENO, b"\n");
 }
 
-// Prints row 0 or 1 of compartment 0.
-fn print_row(ledger: &[u8], second: bool) {
-    if second {
-        io::write_all(STDOUT_FILENO, b"row 1 ");
-        print_bytes(text::front(text::rest(ledger, 32), 32));
-    } else {
-        io::write_all(STDOUT_FILENO, b"row 0 ");
-        print_bytes(text::front(ledger, 32));
-    }
+// Prints a row of compartment 0.
+fn print_row(ledger: &[u8], row: usize) {
+    print_count(b"row ", row as u64);
+    io::write_all(STDOUT_FILENO, b" ");
+    print_bytes(text::front(text::rest(ledger, row % ROW_COUNT * ROW_SIZE), ROW_SIZE));
     io::write_all(STDOUT_FILENO, b"\n");
 }
 
@@ -40,7 +38,7 @@ fn call<'a>(k: usize, reporters: &'a [u8], ledger: &mut [u8], record: &'a [u8]) 
     io::write_all(STDOUT_FILENO, b" ");
     print_reply(calls::record_call(reporters, b"CHFEURUSD", ledger, b"MBONE", record));
     if k == 1 {
-        print_row(ledger, false);
+        print_row(ledger, 0);
     }
 }
 
@@ -63,6 +61,6 @@ fn records<'a>(reporters: &'a [u8], ledger: &mut [u8], file: &'a [u8]) {
 // Calls the records of a file, and prints rows 0 and 1 behind the last.
 pub(crate) fn run<'a>(reporters: &'a [u8], ledger: &mut [u8], file: &'a [u8]) {
     records(reporters, ledger, file);
-    print_row(ledger, false);
-    print_row(ledger, true);
+    print_row(ledger, 0);
+    print_row(ledger, 1);
 }
