@@ -51,7 +51,7 @@ fn nibble(b: u8) -> u8
 }
 
 // The byte of the first two hexadecimal digits; 0 where they are not both there.
-pub fn hex_byte(hex: &[u8]) -> u8
+fn hex_byte(hex: &[u8]) -> u8
     ensures { λ r. ⌜ r ≡ byteOf (now (hex .entry)) ⌝ }
 {
     if hex.len() < 2 {
