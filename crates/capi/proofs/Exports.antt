@@ -68,9 +68,9 @@ module _ (reporters currencies : List ℕ) where
             number = rw (p, told) number;
           }
 
-  file-same : (file a l : List ℕ) → soundLedger l ≡ true → Same (file-export file a) l
+  file-same : (file a l : List ℕ) (word : ℕ) → soundLedger l ≡ true → Same (file-export file a word) l
   unfolding fileExport
-  file-same file a l h = go (fileOf reporters currencies file l a .reply) refl
+  file-same file a l word h = go (fileOf reporters currencies file l a .reply) refl
     where
       told : refusalIn (fileOf reporters currencies file l a .reply) ≡ refusalIn (readingOf reporters currencies file (length a) true)
       told =
@@ -82,7 +82,7 @@ module _ (reporters currencies : List ℕ) where
           of (refused n) = refl
           of (accepted calls) = refl
 
-      go : (r : Reply ℕ) → fileOf reporters currencies file l a .reply ≡ r → Same (file-export file a) l
+      go : (r : Reply ℕ) → fileOf reporters currencies file l a .reply ≡ r → Same (file-export file a word) l
       go (refused n) e =
           let kept = file-kept reporters currencies file l a n e in
           let some : eqb n 0 ≡ false = ne-eqb n 0 (refused-number n e) in
@@ -107,7 +107,7 @@ module _ (reporters currencies : List ℕ) where
 
   export-same : (x : Export) (l : List ℕ) → soundLedger l ≡ true → Same x l
   export-same (record-export sender s a) l h = record-same sender s a l h
-  export-same (file-export file a) l h = file-same file a l h
+  export-same (file-export file a word) l h = file-same file a l word h
 
   export-sound : (x : Export) (l : List ℕ) → soundLedger l ≡ true → soundLedger (exportOf reporters currencies x l .ledger) ≡ true
   export-sound x l h = ap soundLedger (export-same x l h .ledger) ∙ over-sound reporters currencies (exportRequests reporters currencies x) l h
@@ -137,7 +137,7 @@ module _ (reporters currencies : List ℕ) where
       go n true true h = refl
       go n true false h = h
       go n false free h = h
-  number-never-four (file-export file a) = go (readingOf reporters currencies file (length a) true) (sound-never-four reporters currencies (file-call file a))
+  number-never-four (file-export file a word) = go (readingOf reporters currencies file (length a) true) (sound-never-four reporters currencies (file-call file a))
     where
       go : (w : Reply (List Call)) → not (eqb (refusalIn (manyAnswers w)) 4) ≡ true → not (eqb (refusalIn w) 4) ≡ true
       go (refused n) h = h

@@ -14,23 +14,23 @@ use Rattle.calls.specs.Filing.{readingOf}
 use Rattle.calls.specs.Mixed.{Request, record-call, file-call, ledgerOver, answersOver, FilesIsolated}
 use Rattle.capi.specs.Exported.{Exported, recordExport, fileExport, shortNumber}
 
--- one exported call that is lent the ledger: sender, record and answer buffer; or file and answer buffer
+-- one exported call that is lent the ledger: sender, record and answer buffer; or file, answer buffer and the word for its count
 pub data Export : Type 0 where
   record-export : List ℕ → List ℕ → List ℕ → Export
-  file-export : List ℕ → List ℕ → Export
+  file-export : List ℕ → List ℕ → ℕ → Export
 
 module _ (reporters currencies : List ℕ) where
-  -- what it returns and leaves, on the ledger as it then is; the lent word of a file call is 0 before it
+  -- what it returns and leaves, on the ledger as it then is
   abbrev pub exportOf : Export → List ℕ → Exported
   exportOf (record-export sender «record» a) l = recordExport reporters currencies sender «record» l a
-  exportOf (file-export file a) l = fileExport reporters currencies file l a 0
+  exportOf (file-export file a word) l = fileExport reporters currencies file l a word
 
   -- the answers that it writes from its buffer's start: none where it is refused
   abbrev pub exportAnswers : Export → List ℕ → List ℕ
   exportAnswers (record-export sender «record» a) l =
       let o = exportOf (record-export sender «record» a) l in cond (eqb (o .reply) 0) (take answerSize (o .buffer)) []
-  exportAnswers (file-export file a) l =
-      let o = exportOf (file-export file a) l in cond (eqb (o .reply) 0) (take (getD (o .words) 0 0 * answerSize) (o .buffer)) []
+  exportAnswers (file-export file a word) l =
+      let o = exportOf (file-export file a word) l in cond (eqb (o .reply) 0) (take (getD (o .words) 0 0 * answerSize) (o .buffer)) []
 
   -- a list of them, each on the ledger that the last one left
   abbrev pub ledgerThrough : List Export → List ℕ → List ℕ
@@ -48,7 +48,7 @@ module _ (reporters currencies : List ℕ) where
   -- the requests that it stands for: none where its buffer has no room for one answer
   abbrev pub exportRequests : Export → List Request
   exportRequests (record-export sender «record» a) = cond (ltb (length a) answerSize) [] (record-call (called sender «record») ∷ [])
-  exportRequests (file-export file a) = file-call file a ∷ []
+  exportRequests (file-export file a word) = file-call file a ∷ []
 
   abbrev pub requestsOver : List Export → List Request
   requestsOver [] = []
@@ -58,7 +58,7 @@ module _ (reporters currencies : List ℕ) where
   abbrev pub soundNumber : Export → ℕ
   soundNumber (record-export sender «record» a) =
       let n = refusalOf reporters currencies (called sender «record») true in cond (ltb (length a) answerSize) (shortNumber n) n
-  soundNumber (file-export file a) = refusalIn (readingOf reporters currencies file (length a) true)
+  soundNumber (file-export file a word) = refusalIn (readingOf reporters currencies file (length a) true)
 
   -- The claim: ledger and answers are those of the requests that the calls stand for, and demand 3 holds of these; each call returns what it returns on
   -- every sound ledger, and 4 is never among the replies.
