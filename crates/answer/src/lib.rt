@@ -6,6 +6,12 @@ ghost use Rattle.answer.specs.Answer.{answerSize, answerBytes, answerPut
 // The bytes of an answer record.
 pub const ANSWER_SIZE: usize = 16;
 
+// The reporter's row of a record that passes for no bank.
+pub const NO_REPORTER: u8 = 255;
+
+// The status of a record that is booked.
+pub const BOOKED: u8 = 0;
+
 // What a call answers to a record.
 pub struct Answer {
     // The set of failed checks, bit k for place k.

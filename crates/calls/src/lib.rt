@@ -14,6 +14,7 @@ ghost use Rattle.calls.specs.Rules.{rules};
 ghost use Rattle.calls.specs.Replied.{outcome};
 ghost use Rattle.calls.specs.declared.Replied.the-variants.{Answered};
 use answer::Answer;
+use answer::NO_REPORTER;
 use decimal::Decimal;
 use failures::Failures;
 use fields::part;
@@ -26,9 +27,7 @@ pub mod filing;
 // The largest record.
 const RECORD_LIMIT: usize = 32768;
 
-// The row of a record that passes for no bank, and of a record that is not booked.
-const NO_REPORTER: usize = 255;
-
+// The new row of a record that is not booked.
 const NO_ROW: usize = 65535;
 
 // What a call returns: the number of its refusal, or its answer.
@@ -147,8 +146,8 @@ fn stranger(checked: Checked, record: &[u8]) -> Answer
     ensures { λ r. ⌜ r ≡ answerOf (failedOf checked) noReporter noRow (now («record» .entry)) ⌝ }
 {
     match checked {
-        Checked::Failed(failed) => answer_of(failed, NO_REPORTER, NO_ROW, record),
-        Checked::Passed(_) => answer_of(Failures::none(), NO_REPORTER, NO_ROW, record),
+        Checked::Failed(failed) => answer_of(failed, NO_REPORTER as usize, NO_ROW, record),
+        Checked::Passed(_) => answer_of(Failures::none(), NO_REPORTER as usize, NO_ROW, record),
     }
 }
 

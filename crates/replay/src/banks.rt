@@ -1,8 +1,8 @@
 // Sixteen banks, each with a mailbox of its own but for the second, which has the first's: what stands in a bank's row of the reporters table.
 
-pub(crate) const BANKS: usize = 16;
+use tables::REPORTER_SIZE;
 
-const REPORTER_SIZE: usize = 32;
+pub(crate) const BANKS: usize = 16;
 
 // The bytes of a bank's row from a place on.
 fn row_from(reporters: &[u8], bank: usize, place: usize) -> &[u8] {

@@ -4,6 +4,7 @@ use crate::drawn::Call;
 use crate::print::print_count;
 use answer::ANSWER_SIZE;
 use answer::Answer;
+use answer::BOOKED;
 use calls::Replied;
 use ledger::COMPARTMENT_SIZE;
 use libc::STDOUT_FILENO;
@@ -11,9 +12,7 @@ use libc::STDOUT_FILENO;
 // How many calls are drawn.
 const CALLS: usize = 4096;
 
-// The statuses of answers, with one more, for a call that is refused.
-const BOOKED: u8 = 0;
-
+// The status of a record that passes for no bank, and one more, for a call that is refused.
 const STRANGER: u8 = 1;
 
 const REFUSED: u8 = 255;

@@ -6,16 +6,12 @@ ghost use Rattle.page.specs.Page.{page, appended};
 ghost use Rattle.results.specs.Results.{rowText, lineText, linesText, bookedCount, acceptedText, refusedText};
 use answer::ANSWER_SIZE;
 use answer::Answer;
+use answer::BOOKED;
+use answer::NO_REPORTER;
 use failures::Failures;
 use page::append;
 use page::append_code;
 use page::append_number;
-
-// The row of a record that passes for no bank.
-const NO_REPORTER: u8 = 255;
-
-// The status of a record that is booked.
-const BOOKED: u8 = 0;
 
 // The answer to record k, counted from 0; zeros where it is not there.
 fn answer_to(answers: &[u8], k: usize) -> Answer

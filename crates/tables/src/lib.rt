@@ -16,7 +16,7 @@ use text::Class;
 use text::Order;
 
 // Bytes of a row of the reporters table, and the most rows that it may have.
-const REPORTER_SIZE: usize = 32;
+pub const REPORTER_SIZE: usize = 32;
 
 const REPORTER_LIMIT: usize = 16;
 

@@ -9,8 +9,14 @@ use Rattle.calls.proofs.stranger.Tie as tie
 enum-known-checked : tie.Need-enum-known-checked
 enum-known-checked c = search needs
 
+cast-answer-of : tie.Need-cast-answer-of
+cast-answer-of c = search needs
+
 answer-of-requires : tie.Need-answer-of-requires
 answer-of-requires c κs = search needs
+
+cast-answer-of-2 : tie.Need-cast-answer-of-2
+cast-answer-of-2 c = search needs
 
 answer-of-requires-2 : tie.Need-answer-of-requires-2
 answer-of-requires-2 c κs = search needs
@@ -34,9 +40,11 @@ stranger-spec =
     tie.close
     (tie.spec
     enum-known-checked
+    cast-answer-of
     answer-of-requires
     enum-told
     (λ c κs. tt)
+    cast-answer-of-2
     answer-of-requires-2
     returns
     returns-2)
