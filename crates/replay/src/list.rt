@@ -44,8 +44,8 @@ fn answer_to(reporters: &[u8], ledger: &mut [u8], call: Call) -> Answer {
     let template =
         b"k;r;I;47m1;;;s;20130903;101500;;;;;WBAH;J;c;;N;S;AT0000831706;XXX;q;1;e;54,7;;;K;;;;;;;;;;N;Nn";
     let mut room = [0u8; 256];
-    let n = crate::message::write_record(&mut room, template, reporters, call);
-    let sender = crate::message::sender_of(reporters, call);
+    let n = crate::arguments::write_record(&mut room, template, reporters, call);
+    let sender = crate::arguments::sender_of(reporters, call);
     let record = text::front(&room, n);
     answer_of(calls::record_call(reporters, b"CHFEURUSD", ledger, sender, record))
 }

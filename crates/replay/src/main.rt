@@ -2,10 +2,10 @@
 ghost use mathlib.Core.Path.{_≡_};
 ghost use lib.ListN.{length};
 
+mod arguments;
 mod banks;
 mod drawn;
 mod list;
-mod message;
 mod print;
 mod refused;
 mod worked;

@@ -587,7 +587,7 @@ pub fn every_byte(check: &mut Check, rng: &mut Rng) {
     check.section("tables and ledgers: every byte replaced");
     let world = World::worked();
     let record = crate::singles::R1;
-    let mut book = vec![0; LEDGER_SIZE];
+    let mut sound = vec![0; LEDGER_SIZE];
     let row = |state: u8, number: &str, partner: u16| Row {
         state,
         number: number.into(),
@@ -602,11 +602,11 @@ pub fn every_byte(check: &mut Check, rng: &mut Rng) {
         row(3, "B3", 1),
     ];
     let bank = rng.below(BANKS);
-    put(&mut book, bank, &rows);
+    put(&mut sound, bank, &rows);
     let mut replaced = |which: usize, at: usize| {
         for byte in 0..=255 {
             let mut lent = [world.reporters.clone(), world.currencies.clone()];
-            let mut ledger = book.clone();
+            let mut ledger = sound.clone();
             match which {
                 2 => ledger[at] = byte,
                 _ => lent[which][at] = byte,

@@ -189,20 +189,20 @@ pub fn valid_files(check: &mut Check, rng: &mut Rng, count: usize) {
         let left = check.file_expecting(&call, Some(Ok(lines.len() as u64)), "valid file");
         let (after, answers) = (left.ledger.clone(), left.answers.clone());
 
-        let mut book = desk.ledger.clone();
+        let mut ledger = desk.ledger.clone();
         let mut singly = vec![0; need];
         let mut replies = 0;
         for (record, answer) in lines.iter().zip(singly.chunks_mut(ANSWER_SIZE)) {
             replies |= raw::record(
                 &desk.world.reporters,
                 &desk.world.currencies,
-                &mut book,
+                &mut ledger,
                 &parts.sender,
                 record,
                 answer,
             );
         }
-        check.case(replies == 0 && singly == answers && book == after, || {
+        check.case(replies == 0 && singly == answers && ledger == after, || {
             format!("{} differs from its single calls", file.escape_ascii())
         });
     }

@@ -113,16 +113,16 @@ pub fn lists(check: &mut Check, rng: &mut Rng, count: usize) {
         let banks = if list % 4 == 0 { rng.within(1..=4) } else { 16 };
         let world = World::random(rng, banks);
         let percent = *rng.pick(&[0, 0, 10, 50]);
-        let mut book = ledger(rng, percent);
+        let mut shared = ledger(rng, percent);
         // Few banks and many calls fill compartments.
         let length = if list % 4 == 0 { 200 } else { 100 };
         for _ in 0..length {
-            let call = call(rng, &world, &book);
+            let call = call(rng, &world, &shared);
             let left = match &call.file {
                 None => check.record(&RecordCall {
                     reporters: &world.reporters,
                     currencies: &world.currencies,
-                    ledger: &book,
+                    ledger: &shared,
                     sender: &call.sender,
                     record: &call.records[0],
                     room: call.room,
@@ -131,11 +131,11 @@ pub fn lists(check: &mut Check, rng: &mut Rng, count: usize) {
                     file,
                     reporters: &world.reporters,
                     currencies: &world.currencies,
-                    ledger: &book,
+                    ledger: &shared,
                     room: call.room,
                 }),
             };
-            book.clone_from(&left.ledger);
+            shared.clone_from(&left.ledger);
         }
     }
 }

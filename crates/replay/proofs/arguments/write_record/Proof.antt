@@ -2,8 +2,8 @@ use borrow.Author.Needs.{needs}
 use Prim.Native.Nat.{_≤_, _-_}
 use mathlib.Core.Path.{_≡_}
 use lib.ListN.{length}
-use Rattle.replay.proofs.message.write_record.Statement.{statement}
-use Rattle.replay.proofs.message.write_record.Tie as tie
+use Rattle.replay.proofs.arguments.write_record.Statement.{statement}
+use Rattle.replay.proofs.arguments.write_record.Tie as tie
 
 abbrev Inv-loop : tie.InvT-loop
 Inv-loop out₀ template reporters call end₀ i₀ out end i = (length out ≡ length out₀) × (i ≤ length template)
