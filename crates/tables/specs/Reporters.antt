@@ -2,7 +2,7 @@
 -- Assumes nothing.
 use Prim.Native.Nat.{ℕ, _*_, _/_, _%_}
 use Prim.Native.Char.{code}
-use mathlib.Core.Bool.{Bool, true, false, _&&_, not, cond}
+use mathlib.Core.Bool.{Bool, _&&_, not, cond}
 use mathlib.Core.List.{List}
 use lib.Dec.{leb, ltb, eqb}
 use lib.ListN.{length, take, drop}
@@ -71,16 +71,16 @@ hasAddress t f k = ltb k (reporterCount t) && sameAddress (addressOf (reporterAt
 unfoldable pub hasMailbox : List ℕ → List ℕ → ℕ → Bool
 hasMailbox t f k = ltb k (reporterCount t) && same (mailboxOf (reporterAt t k)) f
 
--- row k has the address, where the flag says so, else the bank code; the first such row, and the count of rows where there is none
+-- the first row with the bank code, with the address; the count of rows where there is none
+unfoldable pub rowByCode : List ℕ → List ℕ → ℕ
+rowByCode t f = least (reporterCount t) (hasCode t f)
+
+unfoldable pub rowByAddress : List ℕ → List ℕ → ℕ
+rowByAddress t f = least (reporterCount t) (hasAddress t f)
+
+-- what the one search looks for: the address, where the flag says so, else the bank code
 abbrev pub hasBy : Bool → List ℕ → List ℕ → ℕ → Bool
 hasBy addressed t f k = cond addressed (hasAddress t f k) (hasCode t f k)
 
 abbrev pub firstRowBy : Bool → List ℕ → List ℕ → ℕ
 firstRowBy addressed t f = least (reporterCount t) (hasBy addressed t f)
-
--- the first row with the bank code, with the address
-unfoldable pub rowByCode : List ℕ → List ℕ → ℕ
-rowByCode t f = firstRowBy false t f
-
-unfoldable pub rowByAddress : List ℕ → List ℕ → ℕ
-rowByAddress t f = firstRowBy true t f

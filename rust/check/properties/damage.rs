@@ -514,11 +514,7 @@ const HARMLESS: &[(&str, Change)] = &[
 /// Both calls on what is lent, with the outcome that the damage asks for.
 fn both_calls(check: &mut Check, rng: &mut Rng, lent: &Lent, due: Option<Outcome>, label: &str) {
     let bank = lent.world.random_bank(rng);
-    let setting = Setting {
-        world: &lent.world,
-        bank,
-        rows: &[],
-    };
+    let setting = Setting::without_rows(&lent.world, bank);
     let record = valid(rng, &setting).to_bytes();
     let mut sender = lent.world.banks[bank].mailbox.as_slice();
     let mut room = 32;

@@ -9,7 +9,7 @@ use crate::rng::Rng;
 use crate::singles::worked_records;
 use crate::tally::Check;
 use crate::values::{date, name, near, near_date, near_time, time, CAPITALS};
-use crate::world::{ledger, rows_of, World, LEDGER_SIZE};
+use crate::world::{ledger, World, LEDGER_SIZE};
 
 const LONGEST_FILE: usize = 32_768;
 const MOST_RECORDS: usize = 1_024;
@@ -114,12 +114,7 @@ fn records(rng: &mut Rng, world: &World, ledger: &[u8], count: usize) -> Vec<Vec
     let mut numbers = Vec::new();
     for _ in 0..count {
         let bank = world.random_bank(rng);
-        let rows = rows_of(ledger, bank);
-        let setting = Setting {
-            world,
-            bank,
-            rows: &rows,
-        };
+        let setting = Setting::new(world, bank, ledger);
         let mut record = valid(rng, &setting);
         if rng.chance(30) && !numbers.is_empty() {
             let number: &Vec<u8> = rng.pick(&numbers);
@@ -402,11 +397,7 @@ pub fn counts_and_lengths(check: &mut Check, rng: &mut Rng, rounds: usize) {
             LONGEST_FILE + 1,
             LONGEST_FILE + 5_000,
         ] {
-            let setting = Setting {
-                world: &desk.world,
-                bank: 0,
-                rows: &[],
-            };
+            let setting = Setting::without_rows(&desk.world, 0);
             let mut record = valid(rng, &setting);
             record.set(10, "");
             let file = |record: &Record| {

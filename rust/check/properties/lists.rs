@@ -10,7 +10,7 @@ use crate::records::{edit, valid, Setting};
 use crate::rng::Rng;
 use crate::tally::Check;
 use crate::values::name;
-use crate::world::{ledger, rows_of, World, BANKS, COMPARTMENT_SIZE, LEDGER_SIZE};
+use crate::world::{ledger, World, BANKS, COMPARTMENT_SIZE, LEDGER_SIZE};
 
 type AnswerBytes = [u8; ANSWER_SIZE];
 
@@ -26,12 +26,7 @@ struct Call {
 
 /// A record of a bank: mostly valid, with numbers from a small stock so that bookings meet.
 fn record(rng: &mut Rng, world: &World, ledger: &[u8], bank: usize) -> Vec<u8> {
-    let rows = rows_of(ledger, bank);
-    let setting = Setting {
-        world,
-        bank,
-        rows: &rows,
-    };
+    let setting = Setting::new(world, bank, ledger);
     let mut record = valid(rng, &setting);
     if rng.chance(30) {
         record.set(39, name(rng, &[1]));

@@ -10,7 +10,7 @@ use crate::files::Parts;
 use crate::records::{valid, Setting};
 use crate::rng::Rng;
 use crate::tally::Check;
-use crate::world::{ledger, rows_of, World};
+use crate::world::{ledger, World};
 
 extern "C" {
     fn roselhanda_record(
@@ -177,12 +177,7 @@ pub fn null_pointers(check: &mut Check, rng: &mut Rng, rounds: usize) {
         let world = World::random(rng, 16);
         let ledger = ledger(rng, 20);
         let bank = world.random_bank(rng);
-        let setting = Setting {
-            world: &world,
-            bank,
-            rows: &rows_of(&ledger, bank),
-        };
-        let record = valid(rng, &setting).to_bytes();
+        let record = valid(rng, &Setting::new(&world, bank, &ledger)).to_bytes();
         let sender = world.banks[bank].mailbox.clone();
         let file = Parts::new(&sender, b"W", slice::from_ref(&record)).to_bytes();
         let without_records = Parts::new(&sender, b"W", &[]).to_bytes();

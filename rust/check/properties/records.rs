@@ -2,7 +2,7 @@
 
 use crate::rng::Rng;
 use crate::values::*;
-use crate::world::{World, SPECIALS};
+use crate::world::{rows_of, World, SPECIALS};
 
 pub const FIELDS: usize = 39;
 
@@ -22,7 +22,21 @@ pub struct Setting<'a> {
     pub world: &'a World,
     pub bank: usize,
     /// State and number of each filled row.
-    pub rows: &'a [(u8, Vec<u8>)],
+    pub rows: Vec<(u8, Vec<u8>)>,
+}
+
+impl<'a> Setting<'a> {
+    /// A bank with the rows that it has in a ledger.
+    pub fn new(world: &'a World, bank: usize, ledger: &[u8]) -> Self {
+        let rows = rows_of(ledger, bank);
+        Setting { world, bank, rows }
+    }
+
+    /// A bank whose rows do not matter.
+    pub fn without_rows(world: &'a World, bank: usize) -> Self {
+        let rows = Vec::new();
+        Setting { world, bank, rows }
+    }
 }
 
 /// A record as its fields; edits may leave more or fewer than 39.
@@ -347,9 +361,9 @@ fn value(rng: &mut Rng, setting: &Setting, record: &Record, n: usize) -> Vec<u8>
         }
         15 | 18 | 38 => one_of(rng, &[b"J", b"N", b"J", b"N", b"j", b"Y", b"JN", b" "]),
         16 | 39 => match rng.below(6) {
-            0 | 1 if !setting.rows.is_empty() => rng.pick(setting.rows).1.clone(),
+            0 | 1 if !setting.rows.is_empty() => rng.pick(&setting.rows).1.clone(),
             2 if !setting.rows.is_empty() => {
-                let taken = &rng.pick(setting.rows).1;
+                let taken = &rng.pick(&setting.rows).1;
                 [
                     taken.as_slice(),
                     one_of(rng, &[b"\0", b"A", b" ", b"0"]).as_slice(),
@@ -357,7 +371,7 @@ fn value(rng: &mut Rng, setting: &Setting, record: &Record, n: usize) -> Vec<u8>
                 .concat()
             }
             3 if !setting.rows.is_empty() => {
-                let value = rng.pick(setting.rows).1.clone();
+                let value = rng.pick(&setting.rows).1.clone();
                 near(rng, &value)
             }
             4 => record.get(55 - n).to_vec(),

@@ -9,7 +9,7 @@ use crate::records::{edit, valid, Record, Setting};
 use crate::rng::Rng;
 use crate::tally::{set_of, Check};
 use crate::values::{name, near};
-use crate::world::{compartment, fill, ledger, put, rows_of, World, LEDGER_SIZE};
+use crate::world::{compartment, fill, ledger, put, World, LEDGER_SIZE};
 
 pub const R1: &[u8] = b"B;98001;I;4711;;;B;20130903;101500;;;;;WBAH;J;;;N;S;AT0000831706;XXX;1500;1;EUR;54,7;;;K;;;;;;;;;;N;A1";
 
@@ -128,12 +128,7 @@ pub fn edited_records(check: &mut Check, rng: &mut Rng, chains: usize) {
         let count = fill(rng);
         let mut filled = compartment(rng, count);
         put(&mut ledger, bank, &filled);
-        let rows = rows_of(&ledger, bank);
-        let setting = Setting {
-            world: &world,
-            bank,
-            rows: &rows,
-        };
+        let setting = Setting::new(&world, bank, &ledger);
         let mut sender = world.banks[bank].mailbox.clone();
         let mut record = valid(rng, &setting);
         let mut before = None;
@@ -244,12 +239,7 @@ pub fn rooms(check: &mut Check, rng: &mut Rng, rounds: usize) {
         let world = World::random(rng, 16);
         let ledger = ledger(rng, 0);
         let bank = world.random_bank(rng);
-        let setting = Setting {
-            world: &world,
-            bank,
-            rows: &[],
-        };
-        let record = valid(rng, &setting).to_bytes();
+        let record = valid(rng, &Setting::new(&world, bank, &ledger)).to_bytes();
         for room in 0..=17 {
             let call = RecordCall {
                 reporters: &world.reporters,
@@ -272,11 +262,7 @@ pub fn refused_records(check: &mut Check, rng: &mut Rng, cases: usize) {
     let ledger = ledger(rng, 10);
     for _ in 0..cases {
         let bank = world.random_bank(rng);
-        let setting = Setting {
-            world: &world,
-            bank,
-            rows: &[],
-        };
+        let setting = Setting::without_rows(&world, bank);
         let mut sender = world.banks[bank].mailbox.clone();
         let mut record = valid(rng, &setting);
         if rng.chance(5) {
@@ -339,11 +325,7 @@ pub fn field_views(check: &mut Check, rng: &mut Rng, cases: usize) {
     check.section("field views");
     let world = World::random(rng, 16);
     for case in 0..cases {
-        let setting = Setting {
-            world: &world,
-            bank: world.random_bank(rng),
-            rows: &[],
-        };
+        let setting = Setting::without_rows(&world, world.random_bank(rng));
         let record = match case % 4 {
             0 => valid(rng, &setting).to_bytes(),
             1 => {
