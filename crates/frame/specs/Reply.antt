@@ -1,6 +1,9 @@
 -- What a call returns, in the terms of document 01, "Refused calls": the number of its refusal, or what an accepted call gives.
 -- Assumes nothing.
 use Prim.Native.Nat.{ℕ}
+use mathlib.Core.Bool.{Bool, cond}
+use mathlib.Core.List.{List, [], _∷_}
+use lib.Dec.{eqb}
 
 pub data Reply (A : Type 0) : Type 0 where
   refused : ℕ → Reply A
@@ -10,3 +13,12 @@ pub data Reply (A : Type 0) : Type 0 where
 abbrev pub refusalIn : {A : Type 0} → Reply A → ℕ
 refusalIn (refused n) = n
 refusalIn (accepted a) = 0
+
+-- the number of a refusal unless what it asks holds; 0 where it does
+unfoldable pub unless : Bool → ℕ → ℕ
+unless holds n = cond holds 0 n
+
+-- the first refusal of several that applies, 0 for none: the refusals of a call in their order
+unfoldable pub firstOf : List ℕ → ℕ
+firstOf [] = 0
+firstOf (n ∷ ns) = cond (eqb n 0) (firstOf ns) n

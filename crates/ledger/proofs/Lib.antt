@@ -5,3 +5,4 @@ pub mod RowLaws
 pub mod SoundLaws
 pub mod SlotLaws
 pub mod EmptyLaws
+pub mod LedgerLaws

@@ -7,6 +7,7 @@ use lib.Dec.{eqb, ltb}
 use lib.ListN.{length}
 use Rattle.frame.specs.Every.{every}
 use Rattle.frame.specs.Parts.{part}
+use Rattle.frame.specs.Reply.{unless}
 use Rattle.text.specs.Class.{isZero}
 use Rattle.text.specs.Bytes.{all, same}
 use Rattle.ledger.specs.Row.{rowSize, free, live, cancelled, cancellation, noPartner, state, filledRow, number, partner, rowForm}
@@ -53,6 +54,10 @@ soundRow ρ k = cond (eqb (state (ρ k)) free) (all isZero (ρ k)) (rowForm (ρ 
 unfoldable pub soundCompartment : List ℕ → Bool
 soundCompartment c = eqb (length c) compartmentSize && every rowCount (soundRow (rowsOf c))
 
--- the ledger is as document 01 asks; else a call is refused by 4
+-- the ledger is as document 01 asks
 unfoldable pub soundLedger : List ℕ → Bool
 soundLedger l = eqb (length l) ledgerSize && every bankCount (λ r. soundCompartment (part compartmentSize r l))
+
+-- the number by which the ledger refuses a call; 0 for none
+unfoldable pub ledgerFlaw : List ℕ → ℕ
+ledgerFlaw l = unless (soundLedger l) 4

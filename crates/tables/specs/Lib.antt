@@ -1,2 +1,3 @@
 pub mod Reporters
 pub mod Currencies
+pub mod Tables
