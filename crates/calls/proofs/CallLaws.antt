@@ -2,10 +2,11 @@
 -- Assumes nothing.
 use Prim.Native.Nat.{ℕ, _*_, _+_, _-_, _≤_, _<_}
 use native.Mathlib.Omega.{arith}
-use mathlib.Core.Bool.{Bool, true, false, not, cond}
-use mathlib.Core.List.{List, _++_}
+use mathlib.Core.Bool.{Bool, true, false, cond}
+use mathlib.Core.List.{List, [], _++_}
+use mathlib.Core.Logic.{_≢_}
 use mathlib.Core.Path.{_≡_, refl, ap, sym, _∙_}
-use borrow.Author.Tests.{eq-eqb, ne-eqb, eqb-true, leb-true}
+use borrow.Author.Tests.{eq-eqb, ne-eqb, leb-true}
 use lib.Dec.{eqb, leb}
 use lib.ListN.{length, take, drop}
 use Rattle.frame.specs.Every.{least}
@@ -15,16 +16,19 @@ use Rattle.frame.specs.Reply as R
 use Rattle.frame.proofs.BoolLaws.{and-left}
 use Rattle.frame.proofs.LeastLaws.{least-le}
 use Rattle.frame.proofs.PartLaws.{part-lent, put-lent}
+use Rattle.frame.proofs.ReplyLaws.{unless-holds, unless-none, unless-never, first-passes, first-end, first-none, end-never, first-never}
 use Rattle.frame.proofs.Isolation.{single-refused, single-stranger, single-step}
 use Rattle.identifier.specs.Identifier.{nameUpTo}
 use Rattle.failures.specs.declared.Failures.{Failures}
 use Rattle.fields.specs.Fields.{isWhole, fieldOf, fieldBy, stopsOf, isWholeIndex}
 use Rattle.fields.proofs.FieldLaws.{field-by, whole-index}
 use Rattle.tables.specs.Reporters.{reportersOk}
+use Rattle.tables.specs.Tables.{tablesOf, tablesFlaw}
+use Rattle.tables.proofs.FlawLaws.{tables-in-order, tables-never}
 use Rattle.tables.specs.Currencies.{currenciesOk, isMoney, foundMoney}
 use Rattle.tables.proofs.CurrencyLaws.{found-money}
 use Rattle.tables.proofs.ReporterLaws.{rows-below}
-use Rattle.ledger.specs.Sound.{bankCount, ledgerSize, compartmentSize, rowCount, rowsOf, soundLedger}
+use Rattle.ledger.specs.Sound.{bankCount, ledgerSize, compartmentSize, rowCount, rowsOf, ledgerFlaw}
 use Rattle.ledger.specs.Lookup.{isFree, freeRow}
 use Rattle.sender.specs.declared.Checked.{Checked}
 use Rattle.sender.specs.declared.Checked.the-variants.{Passed, Failed}
@@ -36,63 +40,50 @@ use Rattle.checks.specs.Booking.{bookingOf}
 use Rattle.checks.specs.Verdict.{failuresFrom7}
 use Rattle.answer.specs.declared.Answer.{Answer}
 use Rattle.answer.specs.Answer.{answerBytes}
-use Rattle.calls.specs.Call.{Call, called, recordLimit, noReporter, noRow, rowOf, failedOf, recordForm, refusalOf, checkedOf, answerOf, bookedAs}
-use Rattle.calls.specs.Call.{foundRows, stepFailures, stepAnswer, stepCompartment}
+use Rattle.calls.specs.Call.{Call, called, recordLimit, noReporter, noRow, rowOf, failedOf, recordForm, callFlaw, refusalOf, checkedOf, answerOf}
+use Rattle.calls.specs.Call.{bookedAs, foundRows, stepFailures, stepAnswer, stepCompartment}
 use Rattle.calls.specs.Rules.{rules}
 
--- a call to which no refusal applies
-pub accepted-call : (reporters currencies : List ℕ) (call : Call) (sound : Bool) → reportersOk reporters ≡ true → currenciesOk currencies ≡ true
-    → sound ≡ true → nameUpTo 8 (call .sender) ≡ true → recordForm (call .«record») ≡ true → 0 ≡ refusalOf reporters currencies call sound
-unfolding refusalOf
-accepted-call reporters currencies call sound a b d e f = rw (a, b, d, e, f) refl
+-- a call whose sender and record are in form
+pub call-passes : (call : Call) → nameUpTo 8 (call .sender) ≡ true → recordForm (call .«record») ≡ true → callFlaw call ≡ 0
+unfolding callFlaw
+call-passes call e f = sym (first-passes _ (unless-holds 13 e) (first-passes [] (unless-holds 14 f) first-end))
 
--- what holds of a call that is not refused
-pub record Accepted (reporters currencies : List ℕ) (call : Call) (sound : Bool) : Type 0 where
-  pub listed : reportersOk reporters ≡ true
-  pub ordered : currenciesOk currencies ≡ true
-  pub kept : sound ≡ true
-  pub formed : recordForm (call .«record») ≡ true
+module _ (reporters currencies : List ℕ) (call : Call) (held : ℕ) where
+  -- a call to which no refusal applies
+  pub accepted-call : tablesFlaw (tablesOf reporters currencies) ≡ 0 → held ≡ 0 → callFlaw call ≡ 0 → 0 ≡ refusalOf reporters currencies call held
+  unfolding refusalOf
+  accepted-call lent kept called = first-passes _ lent (first-passes _ kept (first-passes [] called first-end))
 
-pub accepted : (reporters currencies : List ℕ) (call : Call) (sound : Bool) → refusalOf reporters currencies call sound ≡ 0
-    → Accepted reporters currencies call sound
-unfolding refusalOf
-accepted reporters currencies call sound =
-    go (reportersOk reporters) (currenciesOk currencies) sound (nameUpTo 8 (call .sender)) (recordForm (call .«record»)) refl refl refl refl
-  where
-    go : (a b d e f : Bool) → reportersOk reporters ≡ a → currenciesOk currencies ≡ b → sound ≡ d → recordForm (call .«record») ≡ f
-        → _≡_ {A = ℕ} (cond (not a) 2 (cond (not b) 3 (cond (not d) 4 (cond (not e) 13 (cond (not f) 14 0))))) 0 → Accepted reporters currencies call sound
-    go true true true true true a b d f z = record { listed = a; ordered = b; kept = d; formed = f }
-    go true true true true false a b d f z = absurd (omega arith)
-    go true true true false f p b d q z = absurd (omega arith)
-    go true true false e f p b d q z = absurd (omega arith)
-    go true false d e f p b r q z = absurd (omega arith)
-    go false b d e f p q r t z = absurd (omega arith)
+  -- what holds of a call that is not refused
+  pub record Accepted : Type 0 where
+    pub listed : reportersOk reporters ≡ true
+    pub ordered : currenciesOk currencies ≡ true
+    pub kept : held ≡ 0
+    pub formed : recordForm (call .«record») ≡ true
+
+  pub accepted : refusalOf reporters currencies call held ≡ 0 → Accepted
+  unfolding refusalOf callFlaw
+  accepted e =
+      let (lent, others) = first-none _ _ e in
+      let (kept, last) = first-none _ _ others in
+      let (listed, ordered) = tables-in-order (tablesOf reporters currencies) lent in
+      let (named, formed) = first-none _ _ (first-none _ [] last .0) in
+      record { listed = listed; ordered = ordered; kept = kept; formed = unless-none _ 14 (omega arith) (first-none _ [] formed .0) }
 
 -- on a sound ledger no call is refused by 4
-pub refusal-never-four : (reporters currencies : List ℕ) (call : Call) → not (eqb (refusalOf reporters currencies call true) 4) ≡ true
-unfolding refusalOf
+pub refusal-never-four : (reporters currencies : List ℕ) (call : Call) → refusalOf reporters currencies call 0 ≢ 4
+unfolding refusalOf callFlaw
 refusal-never-four reporters currencies call =
-    go (reportersOk reporters) (currenciesOk currencies) (nameUpTo 8 (call .sender)) (recordForm (call .«record»))
-  where
-    go : (a b e f : Bool) → not (eqb (cond (not a) 2 (cond (not b) 3 (cond (not e) 13 (cond (not f) 14 0)))) 4) ≡ true
-    go true true true true = refl
-    go true true true false = refl
-    go true true false f = refl
-    go true false e f = refl
-    go false b e f = refl
+    let named = unless-never (nameUpTo 8 (call .sender)) 13 4 (omega arith) (omega arith) in
+    let formed = unless-never (recordForm (call .«record»)) 14 4 (omega arith) (omega arith) in
+    let end = end-never 4 (omega arith) in
+    first-never 4 _ _ (tables-never (tablesOf reporters currencies) 4 (omega arith))
+    (first-never 4 0 _ (omega arith) (first-never 4 _ [] (first-never 4 _ _ named (first-never 4 _ [] formed end)) end))
 
 pub record-short : (s : List ℕ) → recordForm s ≡ true → length s ≤ recordLimit
 unfolding recordForm
 record-short s h = leb-true _ _ (and-left (leb (length s) recordLimit) _ h)
-
--- the ledger of the rules is sound where the ledger is
-pub rules-sound : (reporters currencies l : List ℕ) → I.soundLedger (rules reporters currencies) l ≡ soundLedger l
-unfolding soundLedger I.soundLedger
-rules-sound reporters currencies l = refl
-
-pub ledger-size : (l : List ℕ) → soundLedger l ≡ true → length l ≡ ledgerSize
-unfolding soundLedger
-ledger-size l h = eqb-true _ _ (and-left (eqb (length l) ledgerSize) _ h)
 
 -- a field by the index of its record
 pub indexed : (s stops : List ℕ) → stops ≡ stopsOf s → (n : ℕ) → fieldBy s stops n ≡ fieldOf s n
@@ -159,22 +150,18 @@ module _ (reporters currencies : List ℕ) (row : ℕ) (s c : List ℕ) where
 
 -- The three outcomes of a call, on the ledger that it is lent.
 module _ (reporters currencies : List ℕ) (call : Call) (l : List ℕ) where
-  pub refusal-is : {n : ℕ} → n ≡ refusalOf reporters currencies call (soundLedger l)
-      → refusalOf reporters currencies call (I.soundLedger (rules reporters currencies) l) ≡ n
-  refusal-is e = ap (refusalOf reporters currencies call) (rules-sound reporters currencies l) ∙ sym e
+  pub call-refused : {n : ℕ} → n ≡ refusalOf reporters currencies call (ledgerFlaw l) → n ≢ 0
+      → record { reply = R.refused n; store = l } ≡ I.single (rules reporters currencies) call l
+  call-refused {n} e ne = sym (single-refused (rules reporters currencies) call l n (sym e) ne)
 
-  pub call-refused : {n : ℕ} → n ≡ refusalOf reporters currencies call (soundLedger l) → (n ≡ 0 → ⊥)
-      → record { reply = R.refused n; ledger = l } ≡ I.single (rules reporters currencies) call l
-  call-refused {n} e ne = sym (single-refused (rules reporters currencies) call l n (refusal-is e) ne)
-
-  module _ (e : refusalOf reporters currencies call (soundLedger l) ≡ 0) {k : Checked} (q : k ≡ checkedOf reporters call) where
+  module _ (e : refusalOf reporters currencies call (ledgerFlaw l) ≡ 0) {k : Checked} (q : k ≡ checkedOf reporters call) where
     pub call-stranger : {failed : Failures} {a : Answer} → k ≡ Failed failed → a ≡ answerOf (failedOf k) noReporter noRow (call .«record»)
-        → record { reply = R.accepted (answerBytes a); ledger = l } ≡ I.single (rules reporters currencies) call l
+        → record { reply = R.accepted (answerBytes a); store = l } ≡ I.single (rules reporters currencies) call l
     call-stranger f r =
         let none : rowOf (checkedOf reporters call) ≡ noReporter = ap rowOf (sym q ∙ f) in
-        ap (λ (w : Answer). record { reply = R.accepted (answerBytes w); ledger = l })
+        ap (λ (w : Answer). record { reply = R.accepted (answerBytes w); store = l })
         (r ∙ ap (λ (m : Checked). answerOf (failedOf m) noReporter noRow (call .«record»)) q)
-        ∙ sym (single-stranger (rules reporters currencies) call l (refusal-is (sym e)) (rw none (omega arith)))
+        ∙ sym (single-stranger (rules reporters currencies) call l e (rw none (omega arith)))
 
     -- the compartment is lent as a part of the ledger, and comes back into its place
     pub call-step : {row : ℕ} {a : Answer} {d : List ℕ} → k ≡ Passed row → row < bankCount → length l ≡ ledgerSize
@@ -182,7 +169,7 @@ module _ (reporters currencies : List ℕ) (call : Call) (l : List ℕ) where
         a ≡ stepAnswer reporters currencies row (call .«record») lent → d ≡ stepCompartment reporters currencies row (call .«record») lent
         → record {
           reply = R.accepted (answerBytes a);
-          ledger =
+          store =
               take (row * compartmentSize) l
               ++ (d ++ drop (row * compartmentSize + compartmentSize - row * compartmentSize) (drop (row * compartmentSize) l));
         } ≡ I.single (rules reporters currencies) call l
@@ -190,13 +177,13 @@ module _ (reporters currencies : List ℕ) (call : Call) (l : List ℕ) where
         let inside : row * compartmentSize + compartmentSize ≤ length l = omega arith in
         let lent = part-lent compartmentSize row l inside .0 in
         let bank : rowOf (checkedOf reporters call) ≡ row = ap rowOf (sym q ∙ p) in
-        ap (λ (w : List ℕ). record { reply = R.accepted (answerBytes a); ledger = w }) (put-lent compartmentSize row d l)
+        ap (λ (w : List ℕ). record { reply = R.accepted (answerBytes a); store = w }) (put-lent compartmentSize row d l)
         ∙ (λ i. record {
           reply = R.accepted (answerBytes ((b ∙ ap (stepAnswer reporters currencies row (call .«record»)) lent) i));
-          ledger = put compartmentSize row ((m ∙ ap (stepCompartment reporters currencies row (call .«record»)) lent) i) l;
+          store = put compartmentSize row ((m ∙ ap (stepCompartment reporters currencies row (call .«record»)) lent) i) l;
         })
         ∙ (λ i. record {
           reply = R.accepted (answerBytes (stepAnswer reporters currencies (sym bank i) (call .«record») (part compartmentSize row l)));
-          ledger = put compartmentSize row (stepCompartment reporters currencies (sym bank i) (call .«record») (part compartmentSize row l)) l;
+          store = put compartmentSize row (stepCompartment reporters currencies (sym bank i) (call .«record») (part compartmentSize row l)) l;
         })
-        ∙ sym (single-step (rules reporters currencies) call l row (refusal-is (sym e)) bank h)
+        ∙ sym (single-step (rules reporters currencies) call l row e bank h)

@@ -3,16 +3,18 @@
 use Prim.Native.Nat.{ℕ, _*_, _≤_, _<_}
 use native.Mathlib.Decide.{ℕ-discrete}
 use native.Mathlib.Omega.{arith}
-use mathlib.Core.Bool.{Bool, true, false, not, cond}
-use mathlib.Core.List.{List}
+use mathlib.Core.Bool.{Bool, true, false, cond}
+use mathlib.Core.List.{List, []}
+use mathlib.Core.Logic.{_≢_}
 use mathlib.Core.Path.{_≡_, refl, ap, sym, _∙_}
-use borrow.Author.Tests.{ne-eqb, lt-ltb, le-ltb, ltb-false}
+use borrow.Author.Tests.{ne-eqb, lt-ltb, le-ltb, le-leb, leb-true}
 use lib.Dec.{ltb}
 use lib.ListN.{length, length-take, length-drop, length-map}
 use Rattle.frame.specs.Reply.{Reply, refused, accepted, refusalIn}
-use Rattle.tables.specs.Reporters.{reportersOk}
-use Rattle.tables.specs.Currencies.{currenciesOk}
-use Rattle.ledger.specs.Sound.{soundLedger}
+use Rattle.frame.proofs.ReplyLaws.{unless-holds, unless-none, unless-never, first-passes, first-end, first-none, end-never, first-never}
+use Rattle.tables.specs.Tables.{tablesOf, tablesFlaw}
+use Rattle.tables.proofs.FlawLaws.{tables-never}
+use Rattle.ledger.specs.Sound.{ledgerFlaw}
 use Rattle.answer.specs.Answer.{answerSize}
 use Rattle.envelope.specs.declared.Layout.{Layout}
 use Rattle.envelope.specs.declared.Opened.{Opened}
@@ -23,48 +25,42 @@ use Rattle.envelope.specs.Envelope.{reportClass, reportOf, openedAs, senderOf, 
 use Rattle.envelope.proofs.OpenedLaws.{Whole, opened-whole, refused-from-five}
 use Rattle.calls.specs.Call.{Call, called, recordLimit}
 use Rattle.calls.specs.Filing.{fileLimit, lentRefusal, reportCalls, openedReading, readingOf, FileOutcome, fileOutcome, carriedOut, fileOf}
+use Rattle.calls.specs.Mixed.{manyAnswers}
 use Rattle.calls.specs.FileSteps.{callsFrom, Admitted, Open}
 use Rattle.calls.proofs.RecordLaws.{body-admitted}
 
-module _ (reporters currencies file : List ℕ) (sound : Bool) where
+module _ (reporters currencies file : List ℕ) (held : ℕ) where
   -- none of refusals 1 to 4 applies
-  pub lent-none : length file ≤ fileLimit → reportersOk reporters ≡ true → currenciesOk currencies ≡ true → sound ≡ true
-      → 0 ≡ lentRefusal reporters currencies file sound
+  pub lent-none : length file ≤ fileLimit → tablesFlaw (tablesOf reporters currencies) ≡ 0 → held ≡ 0 → 0 ≡ lentRefusal reporters currencies file held
   unfolding lentRefusal
-  lent-none h a b d = rw (le-ltb _ _ h, a, b, d) refl
+  lent-none h lent kept = first-passes _ (unless-holds 1 (le-leb _ _ h)) (first-passes _ lent (first-passes [] kept first-end))
 
   -- what holds of a file to which none of them applies
   pub record Lent : Type 0 where
     pub short : length file ≤ fileLimit
-    pub listed : reportersOk reporters ≡ true
-    pub ordered : currenciesOk currencies ≡ true
-    pub kept : sound ≡ true
+    pub lent : tablesFlaw (tablesOf reporters currencies) ≡ 0
+    pub kept : held ≡ 0
 
-  pub lent-ok : lentRefusal reporters currencies file sound ≡ 0 → Lent
+  pub lent-ok : lentRefusal reporters currencies file held ≡ 0 → Lent
   unfolding lentRefusal
-  lent-ok = go (ltb fileLimit (length file)) (reportersOk reporters) (currenciesOk currencies) sound refl refl refl refl
-    where
-      go : (h a b d : Bool) → ltb fileLimit (length file) ≡ h → reportersOk reporters ≡ a → currenciesOk currencies ≡ b → sound ≡ d
-          → _≡_ {A = ℕ} (cond h 1 (cond (not a) 2 (cond (not b) 3 (cond (not d) 4 0)))) 0 → Lent
-      go false true true true h a b d z = record { short = ltb-false _ _ h; listed = a; ordered = b; kept = d }
-      go true a b d p q r s z = absurd (omega arith)
-      go false false b d p q r s z = absurd (omega arith)
-      go false true false d p q r s z = absurd (omega arith)
-      go false true true false p q r s z = absurd (omega arith)
+  lent-ok e =
+      let (short, others) = first-none _ _ e in
+      let (lent, last) = first-none _ _ others in
+      record { short = leb-true _ _ (unless-none _ 1 (omega arith) short); lent = lent; kept = first-none _ [] last .0 }
 
   -- a file call is refused by them, or read on
-  pub reading-lent : {n : ℕ} (room : ℕ) → n ≡ lentRefusal reporters currencies file sound → (n ≡ 0 → ⊥)
-      → readingOf reporters currencies file room sound ≡ refused n
+  pub reading-lent : {n : ℕ} (room : ℕ) → n ≡ lentRefusal reporters currencies file held → n ≢ 0
+      → readingOf reporters currencies file room held ≡ refused n
   unfolding readingOf
   reading-lent {n} room e ne = rw (← e, ne-eqb n 0 ne)
 
-  pub reading-on : (room : ℕ) → lentRefusal reporters currencies file sound ≡ 0
-      → readingOf reporters currencies file room sound ≡ openedReading file room (reportOf file)
+  pub reading-on : (room : ℕ) → lentRefusal reporters currencies file held ≡ 0
+      → readingOf reporters currencies file room held ≡ openedReading file room (reportOf file)
   unfolding readingOf
   reading-on room e = rw e
 
 -- A report to which none of them applies: its body, whose records are all in form, and the calls that it stands for.
-module _ (reporters currencies file : List ℕ) (sound : Bool) (free : Lent reporters currencies file sound) (l : Layout) (e : reportOf file ≡ accepted l) where
+module _ (reporters currencies file : List ℕ) (held : ℕ) (free : Lent reporters currencies file held) (l : Layout) (e : reportOf file ≡ accepted l) where
   abbrev body : List ℕ
   body = between file (l .first) (l .end)
 
@@ -79,18 +75,18 @@ module _ (reporters currencies file : List ℕ) (sound : Bool) (free : Lent repo
   unfolding recordsFrom
   report-admitted =
       let short : length body ≤ recordLimit = (let h = free .short in simp (length-take, length-drop) (omega arith)) in
-      body-admitted reporters currencies (senderOf file l) (free .listed) (free .ordered) (whole .named) body short
+      body-admitted reporters currencies (senderOf file l) (free .lent) (whole .named) body short
 
-  pub report-open : (m a : List ℕ) → soundLedger m ≡ true → l .records * answerSize ≤ length a
+  pub report-open : (m a : List ℕ) → ledgerFlaw m ≡ 0 → l .records * answerSize ≤ length a
       → Open reporters currencies (senderOf file l) body 0 0 m a
   unfolding recordsFrom
   report-open m a h room =
       let count : length (callsFrom (senderOf file l) body 0) ≡ l .records = length-map (recordsFrom file l) (called (senderOf file l)) ∙ whole .count in
-      record { whole = whole .counts; admitted = report-admitted; sound = h; room = omega arith }
+      record { whole = whole .counts; admitted = report-admitted; inOrder = h; room = omega arith }
 
 -- no call that a file stands for is refused
 module _ (reporters currencies file : List ℕ) (room : ℕ) (calls : List Call) where
-  opened-admitted : Lent reporters currencies file true → (o : Reply Layout) → reportOf file ≡ o → openedReading file room o ≡ accepted calls
+  opened-admitted : Lent reporters currencies file 0 → (o : Reply Layout) → reportOf file ≡ o → openedReading file room o ≡ accepted calls
       → Admitted reporters currencies calls
   opened-admitted free (refused n) q h = let z : _≡_ {A = ℕ} 0 1 = cc in absurd (omega arith)
   opened-admitted free (accepted l) q h = go (ltb room (l .records * answerSize)) h
@@ -99,52 +95,75 @@ module _ (reporters currencies file : List ℕ) (room : ℕ) (calls : List Call)
       go true h = let z : _≡_ {A = ℕ} 0 1 = cc in absurd (omega arith)
       go false h =
           let same : reportCalls file l ≡ calls = cc in
-          rw (← same, ← report-calls reporters currencies file true free l q) (report-admitted reporters currencies file true free l q)
+          rw (← same, ← report-calls reporters currencies file 0 free l q) (report-admitted reporters currencies file 0 free l q)
 
-  pub standing-admitted : readingOf reporters currencies file room true ≡ accepted calls → Admitted reporters currencies calls
-  standing-admitted e = go (ℕ-discrete (lentRefusal reporters currencies file true) 0)
+  pub standing-admitted : readingOf reporters currencies file room 0 ≡ accepted calls → Admitted reporters currencies calls
+  standing-admitted e = go (ℕ-discrete (lentRefusal reporters currencies file 0) 0)
     where
-      go : Dec (lentRefusal reporters currencies file true ≡ 0) → Admitted reporters currencies calls
+      go : Dec (lentRefusal reporters currencies file 0 ≡ 0) → Admitted reporters currencies calls
       go (yes z) =
-          opened-admitted (lent-ok reporters currencies file true z) (reportOf file) refl (sym (reading-on reporters currencies file true room z) ∙ e)
+          opened-admitted (lent-ok reporters currencies file 0 z) (reportOf file) refl (sym (reading-on reporters currencies file 0 room z) ∙ e)
       go (no ne) =
-          let told : readingOf reporters currencies file room true ≡ refused (lentRefusal reporters currencies file true)
-          = reading-lent reporters currencies file true room refl ne in
+          let told : readingOf reporters currencies file room 0 ≡ refused (lentRefusal reporters currencies file 0)
+          = reading-lent reporters currencies file 0 room refl ne in
           let z : _≡_ {A = ℕ} 0 1 = cc in
           absurd (omega arith)
 
--- a file is refused by a number, and not by 0
-pub reading-refused : (reporters currencies file : List ℕ) (room : ℕ) (sound : Bool) (n : ℕ)
-    → readingOf reporters currencies file room sound ≡ refused n → n ≡ 0 → ⊥
-reading-refused reporters currencies file room sound n e z = go (ℕ-discrete (lentRefusal reporters currencies file sound) 0)
+-- a number that a file is not refused by: one by which neither what is lent nor an envelope nor the buffer refuses
+reading-never : (reporters currencies file : List ℕ) (room held k : ℕ) → (lentRefusal reporters currencies file held ≢ 0 → lentRefusal reporters currencies file held ≢ k)
+    → k < 5 → (n : ℕ) → readingOf reporters currencies file room held ≡ refused n → n ≢ k
+reading-never reporters currencies file room held k lent small n e same = go (ℕ-discrete (lentRefusal reporters currencies file held) 0)
   where
     full : (l : Layout) (b : Bool) → cond b (refused 12) (accepted (reportCalls file l)) ≡ refused n → ⊥
     full l true q = let m : n ≡ 12 = cc in omega arith
     full l false q = let y : _≡_ {A = ℕ} 0 1 = cc in omega arith
 
     opened : (o : Reply Layout) → reportOf file ≡ o → openedReading file room o ≡ refused n → ⊥
-    opened (refused m) q h = let same : m ≡ n = cc in let five = refused-from-five reportClass file m q in omega arith
+    opened (refused m) q h = let here : m ≡ n = cc in let five = refused-from-five reportClass file m q in omega arith
     opened (accepted l) q h = full l (ltb room (l .records * answerSize)) h
 
-    go : Dec (lentRefusal reporters currencies file sound ≡ 0) → ⊥
-    go (yes free) = opened (reportOf file) refl (sym (reading-on reporters currencies file sound room free) ∙ e)
+    go : Dec (lentRefusal reporters currencies file held ≡ 0) → ⊥
+    go (yes free) = opened (reportOf file) refl (sym (reading-on reporters currencies file held room free) ∙ e)
     go (no ne) =
-        let told : readingOf reporters currencies file room sound ≡ refused (lentRefusal reporters currencies file sound)
-        = reading-lent reporters currencies file sound room refl ne in
-        let same : lentRefusal reporters currencies file sound ≡ n = cc in
-        ne (same ∙ z)
+        let told : readingOf reporters currencies file room held ≡ refused (lentRefusal reporters currencies file held)
+        = reading-lent reporters currencies file held room refl ne in
+        let here : lentRefusal reporters currencies file held ≡ n = cc in
+        lent ne (here ∙ same)
+
+-- a file is refused by a number, and not by 0
+pub reading-refused : (reporters currencies file : List ℕ) (room held n : ℕ) → readingOf reporters currencies file room held ≡ refused n → n ≢ 0
+reading-refused reporters currencies file room held = reading-never reporters currencies file room held 0 (λ ne. ne) (omega arith)
+
+-- on a sound ledger no file is refused by 4
+lent-never-four : (reporters currencies file : List ℕ) → lentRefusal reporters currencies file 0 ≢ 4
+unfolding lentRefusal
+lent-never-four reporters currencies file =
+    first-never 4 _ _ (unless-never _ 1 4 (omega arith) (omega arith))
+    (first-never 4 _ _ (tables-never (tablesOf reporters currencies) 4 (omega arith)) (first-never 4 0 [] (omega arith) (end-never 4 (omega arith))))
+
+pub reading-never-four : (reporters currencies file : List ℕ) (room : ℕ) → refusalIn (readingOf reporters currencies file room 0) ≢ 4
+reading-never-four reporters currencies file room = go (readingOf reporters currencies file room 0) refl
+  where
+    go : (w : Reply (List Call)) → readingOf reporters currencies file room 0 ≡ w → refusalIn w ≢ 4
+    go (refused n) e = reading-never reporters currencies file room 0 4 (λ ne. lent-never-four reporters currencies file) (omega arith) n e
+    go (accepted calls) e = omega arith
+
+-- a file call returns the number of its refusal, or how many calls it stands for
+pub many-refusal : (w : Reply (List Call)) → refusalIn (manyAnswers w) ≡ refusalIn w
+many-refusal (refused n) = refl
+many-refusal (accepted calls) = refl
 
 -- The returns of the file call, on the ledger and the buffer that it is lent.
 module _ (reporters currencies file l a : List ℕ) where
-  pub file-lent : {n : ℕ} → n ≡ lentRefusal reporters currencies file (soundLedger l) → (n ≡ 0 → ⊥)
+  pub file-lent : {n : ℕ} → n ≡ lentRefusal reporters currencies file (ledgerFlaw l) → n ≢ 0
       → fileOutcome (refused n) l a ≡ fileOf reporters currencies file l a
   unfolding fileOf carriedOut
-  file-lent e ne = rw (reading-lent reporters currencies file (soundLedger l) (length a) e ne)
+  file-lent e ne = rw (reading-lent reporters currencies file (ledgerFlaw l) (length a) e ne)
 
-  module _ (free : lentRefusal reporters currencies file (soundLedger l) ≡ 0) {o : Opened} (q : openedAs o ≡ reportOf file) where
+  module _ (free : lentRefusal reporters currencies file (ledgerFlaw l) ≡ 0) {o : Opened} (q : openedAs o ≡ reportOf file) where
     pub file-unopened : {n r : ℕ} → o ≡ Refused n → r ≡ refusalIn (openedAs o) → fileOutcome (refused r) l a ≡ fileOf reporters currencies file l a
     unfolding fileOf carriedOut
-    file-unopened e h = rw (reading-on reporters currencies file (soundLedger l) (length a) free, ← q, h, e)
+    file-unopened e h = rw (reading-on reporters currencies file (ledgerFlaw l) (length a) free, ← q, h, e)
 
     module _ {y : Layout} (e : o ≡ Report y) where
       abbrev found : reportOf file ≡ accepted y
@@ -152,21 +171,21 @@ module _ (reporters currencies file l a : List ℕ) where
 
       pub file-full : length a < y .records * answerSize → fileOutcome (refused 12) l a ≡ fileOf reporters currencies file l a
       unfolding fileOf carriedOut
-      file-full h = rw (reading-on reporters currencies file (soundLedger l) (length a) free, found, lt-ltb _ _ h)
+      file-full h = rw (reading-on reporters currencies file (ledgerFlaw l) (length a) free, found, lt-ltb _ _ h)
 
-      abbrev ok : Lent reporters currencies file (soundLedger l)
-      ok = lent-ok reporters currencies file (soundLedger l) free
+      abbrev ok : Lent reporters currencies file (ledgerFlaw l)
+      ok = lent-ok reporters currencies file (ledgerFlaw l) free
 
       abbrev records-of : List ℕ
       records-of = between file (y .first) (y .end)
 
       pub file-open : y .records * answerSize ≤ length a → Open reporters currencies (senderOf file y) records-of 0 0 l a
-      file-open h = report-open reporters currencies file (soundLedger l) ok y found l a (ok .kept) h
+      file-open h = report-open reporters currencies file (ledgerFlaw l) ok y found l a (ok .kept) h
 
       pub file-taken : {w : FileOutcome} → y .records * answerSize ≤ length a
           → w ≡ carriedOut reporters currencies (accepted (callsFrom (senderOf file y) records-of 0)) l a → w ≡ fileOf reporters currencies file l a
       unfolding fileOf
       file-taken h t =
-          t ∙ rw (reading-on reporters currencies file (soundLedger l) (length a) free, found, le-ltb _ _ h)
+          t ∙ rw (reading-on reporters currencies file (ledgerFlaw l) (length a) free, found, le-ltb _ _ h)
           (ap (λ (calls : List Call). carriedOut reporters currencies (accepted calls) l a)
-          (report-calls reporters currencies file (soundLedger l) ok y found))
+          (report-calls reporters currencies file (ledgerFlaw l) ok y found))

@@ -11,14 +11,13 @@ use Rattle.frame.proofs.BoolLaws.{and-intro}
 use Rattle.text.specs.Class.{isRecordByte}
 use Rattle.text.specs.Bytes.{all}
 use Rattle.identifier.specs.Identifier.{nameUpTo}
-use Rattle.tables.specs.Reporters.{reportersOk}
-use Rattle.tables.specs.Currencies.{currenciesOk}
+use Rattle.tables.specs.Tables.{tablesOf, tablesFlaw}
 use Rattle.envelope.specs.Pieces.{begins}
 use Rattle.envelope.specs.Body.{crlf, Records, broken, records, withRecord, withByte, recordsOf}
 use Rattle.envelope.specs.Envelope.{listed}
 use Rattle.calls.specs.Call.{called, recordLimit, recordForm}
 use Rattle.calls.specs.FileSteps.{callsFrom, Admitted}
-use Rattle.calls.proofs.CallLaws.{accepted-call}
+use Rattle.calls.proofs.CallLaws.{call-passes, accepted-call}
 
 -- each record of a body is no longer than the body, and has no CR, LF or apostrophe
 abbrev EachFormed : ℕ → Records → Type 0
@@ -56,8 +55,7 @@ each-formed (b ∷ c ∷ s) = go (isRecordByte b) (begins crlf (b ∷ c ∷ s)) 
     go false false e f g = tt
 
 -- with tables in order and a sender in form, the calls of such records are not refused
-module _ (reporters currencies sender : List ℕ) (a : reportersOk reporters ≡ true) (b : currenciesOk currencies ≡ true)
-    (named : nameUpTo 8 sender ≡ true) where
+module _ (reporters currencies sender : List ℕ) (lent : tablesFlaw (tablesOf reporters currencies) ≡ 0) (named : nameUpTo 8 sender ≡ true) where
   formed-admitted : (n : ℕ) → n ≤ recordLimit → (rs : List (List ℕ)) → EachFormed n (records rs)
       → Admitted reporters currencies (map (called sender) rs)
   unfolding recordForm
@@ -65,7 +63,8 @@ module _ (reporters currencies sender : List ℕ) (a : reportersOk reporters ≡
   formed-admitted n h (r ∷ rs) f =
       let e = f .0 in
       let short : length r ≤ recordLimit = omega arith in
-      (sym (accepted-call reporters currencies (called sender r) true a b refl named (and-intro _ _ (le-leb _ _ short) (f .1))), formed-admitted n h rs (f .2))
+      let passes = call-passes (called sender r) named (and-intro _ _ (le-leb _ _ short) (f .1)) in
+      (sym (accepted-call reporters currencies (called sender r) 0 lent refl passes), formed-admitted n h rs (f .2))
 
   pub body-admitted : (body : List ℕ) → length body ≤ recordLimit → Admitted reporters currencies (callsFrom sender body 0)
   body-admitted body h = go (recordsOf body) (each-formed body)

@@ -7,12 +7,12 @@ use mathlib.Core.Path.{_≡_, refl, ap, sym, _∙_}
 use borrow.Author.Tests.{le-leb}
 use lib.ListN.{length, take, drop, length-append, take-append-drop}
 use lib.Seq.{take-at, drop-at, drop-drop, length-take-le}
-use Rattle.frame.specs.Isolation.{Outcome, single, replies, ledgerAfter}
+use Rattle.frame.specs.Isolation.{Outcome, single, replies, storeAfter}
 use Rattle.frame.specs.Parts.{put}
 use Rattle.frame.specs.Reply.{accepted}
 use Rattle.frame.proofs.PartLaws.{put-length}
 use Rattle.text.specs.declared.Class.the-variants.{RecordByte}
-use Rattle.ledger.specs.Sound.{soundLedger}
+use Rattle.ledger.specs.Sound.{ledgerFlaw}
 use Rattle.answer.specs.declared.Answer.{Answer}
 use Rattle.answer.specs.Answer.{answerSize, answerBytes, answerPut}
 use Rattle.envelope.specs.declared.Piece.{Piece}
@@ -27,7 +27,7 @@ use Rattle.calls.specs.Rules.{rules}
 use Rattle.calls.specs.Replied.{outcome}
 use Rattle.calls.specs.Filing.{answersIn, FileOutcome, fileOutcome, carriedOut}
 use Rattle.calls.specs.FileSteps.{callsFrom, Admitted, Ready, Taken, Open}
-use Rattle.calls.proofs.ListLaws.{answers-append, after-sound, single-answered}
+use Rattle.calls.proofs.ListLaws.{answers-append, after-in-order, single-answered}
 
 -- the buffer before and behind answer k, once that is written
 module _ (k : ℕ) (w a : List ℕ) (sized : length w ≡ answerSize) (room : k * answerSize + answerSize ≤ length a) where
@@ -61,9 +61,9 @@ module _ (body : List ℕ) (at next : ℕ) (more : at < length body) (e : lineEn
 -- the call of a record that stands ready, and its answer, written as number k
 module _ (reporters currencies sender body : List ℕ) (at k : ℕ) (l a : List ℕ) (h : Ready reporters currencies sender body at k l a) where
   pub lent-admitted : {next : ℕ} → lineEnd body at ≡ EndsAt next
-      → refusalOf reporters currencies (called sender (take (next - 2 - at) (drop at body))) (soundLedger l) ≡ 0
+      → refusalOf reporters currencies (called sender (take (next - 2 - at) (drop at body))) (ledgerFlaw l) ≡ 0
   lent-admitted {next} e =
-      ap (λ (r : List ℕ). refusalOf reporters currencies (called sender r) (soundLedger l)) (record-lent body at next (h .more) e) ∙ h .admitted
+      ap (λ (r : List ℕ). refusalOf reporters currencies (called sender r) (ledgerFlaw l)) (record-lent body at next (h .more) e) ∙ h .admitted
 
   pub record-taken : {next : ℕ} (w : Answer) {m b : List ℕ} → lineEnd body at ≡ EndsAt next
       → outcome (Answered w) m ≡ single (rules reporters currencies) (called sender (take (next - 2 - at) (drop at body))) l
@@ -74,10 +74,10 @@ module _ (reporters currencies sender body : List ℕ) (at k : ℕ) (l a : List 
       let done : outcome (Answered w) m ≡ single (rules reporters currencies) (call (recordAt body at)) l
       = o ∙ ap (λ (r : List ℕ). single (rules reporters currencies) (call r) l) (record-lent body at next (h .more) e) in
       let bytes : answerBytes w ≡ answersIn (single (rules reporters currencies) (call (recordAt body at)) l .reply ∷ [])
-      = sym (append-nil (answerBytes w)) ∙ ap (λ (q : Outcome (List ℕ)). answersIn (q .reply ∷ [])) done in
+      = sym (append-nil (answerBytes w)) ∙ ap (λ (q : Outcome (List ℕ) (List ℕ)). answersIn (q .reply ∷ [])) done in
       record {
         line = e;
-        ledger = ap (λ (q : Outcome (List ℕ)). q .ledger) done;
+        store = ap (λ (q : Outcome (List ℕ) (List ℕ)). q .store) done;
         buffer = p ∙ rw (le-leb _ _ (h .room), bytes);
       }
 
@@ -85,21 +85,21 @@ module _ (reporters currencies : List ℕ) where
   -- what the calls that are left bring, after k answers
   abbrev pub outcomeFrom : ℕ → List Call → List ℕ → List ℕ → FileOutcome
   outcomeFrom k calls l a =
-      fileOutcome (accepted (k + length calls)) (ledgerAfter (rules reporters currencies) calls l)
+      fileOutcome (accepted (k + length calls)) (storeAfter (rules reporters currencies) calls l)
       (take (k * answerSize) a ++ (answersIn (replies (rules reporters currencies) calls l) ++ drop ((k + length calls) * answerSize) a))
 
   -- the first of them is called, and its answer written
-  outcome-step : (k : ℕ) (c : Call) (cs : List Call) (l a : List ℕ) → refusalOf reporters currencies c (soundLedger l) ≡ 0
+  outcome-step : (k : ℕ) (c : Call) (cs : List Call) (l a : List ℕ) → refusalOf reporters currencies c (ledgerFlaw l) ≡ 0
       → k * answerSize + answerSize ≤ length a → let o = single (rules reporters currencies) c l in
-      outcomeFrom k (c ∷ cs) l a ≡ outcomeFrom (k + 1) cs (o .ledger) (put answerSize k (answersIn (o .reply ∷ [])) a)
+      outcomeFrom k (c ∷ cs) l a ≡ outcomeFrom (k + 1) cs (o .store) (put answerSize k (answersIn (o .reply ∷ [])) a)
   outcome-step k c cs l a free room =
       let o = single (rules reporters currencies) c l in
       let w : List ℕ = answersIn (o .reply ∷ []) in
-      let ws : List ℕ = answersIn (replies (rules reporters currencies) cs (o .ledger)) in
+      let ws : List ℕ = answersIn (replies (rules reporters currencies) cs (o .store)) in
       let sized : length w ≡ answerSize = single-answered reporters currencies c l free in
       let count : k + suc (length cs) ≡ k + 1 + length cs = omega arith in
       let joined : answersIn (replies (rules reporters currencies) (c ∷ cs) l) ≡ w ++ ws
-      = answers-append (o .reply ∷ []) (replies (rules reporters currencies) cs (o .ledger)) in
+      = answers-append (o .reply ∷ []) (replies (rules reporters currencies) cs (o .store)) in
       rw (count, joined, put-front k w a sized room, put-behind k w a sized room (length cs)) (simp append-assoc)
 
   module _ (sender body : List ℕ) where
@@ -135,11 +135,11 @@ module _ (reporters currencies : List ℕ) where
             let w = with-record (recordAt body at) (recordsOf (drop next body)) (sym on ∙ g .now .whole ∙ ap (λ (r : Records). records (listed r)) on) in
             (w .0, ap (λ (r : Records). map (called sender) (listed r)) on ∙ ap (map (called sender)) (w .1))
 
-        free : (refusalOf reporters currencies (called sender (recordAt body at)) (soundLedger l) ≡ 0)
+        free : (refusalOf reporters currencies (called sender (recordAt body at)) (ledgerFlaw l) ≡ 0)
             × Admitted reporters currencies (callsFrom sender body next)
         free =
             let h : Admitted reporters currencies (called sender (recordAt body at) ∷ callsFrom sender body next) = rw (split .1) at (g .now .admitted) in
-            (ap (refusalOf reporters currencies (called sender (recordAt body at))) (g .now .sound) ∙ h .0, h .1)
+            (ap (refusalOf reporters currencies (called sender (recordAt body at))) (g .now .inOrder) ∙ h .0, h .1)
 
         room : k * answerSize + answerSize ≤ length a
         room =
@@ -167,13 +167,13 @@ module _ (reporters currencies : List ℕ) where
             now = record {
               whole = split next e .0;
               admitted = free next e .1;
-              sound = ap soundLedger (t .ledger) ∙ after-sound reporters currencies (call ∷ []) l (g .now .sound);
+              inOrder = ap ledgerFlaw (t .store) ∙ after-in-order reporters currencies (call ∷ []) l (g .now .inOrder);
               room = rw long (omega arith);
             };
             long = long ∙ g .long;
             same =
                 g .same
-                ∙ rw (split next e .1, t .buffer, t .ledger) (outcome-step k call (callsFrom sender body next) l a (free next e .0) (room next e));
+                ∙ rw (split next e .1, t .buffer, t .store) (outcome-step k call (callsFrom sender body next) l a (free next e .0) (room next e));
           }
 
     -- at the body's end all is done

@@ -12,7 +12,6 @@ use lib.ListN.{length, drop, replicate}
 use Rattle.frame.specs.Every.{every, least}
 use Rattle.frame.specs.Parts.{part, put}
 use Rattle.frame.specs.Reply.{Reply, refused, accepted}
-use Rattle.frame.specs.Isolation as I
 use Rattle.frame.specs.Isolation.{Outcome, single, Isolated}
 use Rattle.frame.proofs.Isolation.{single-stranger, single-step}
 use Rattle.frame.proofs.PartLaws.{part-replicate, put-own}
@@ -33,8 +32,11 @@ use Rattle.tables.specs.Reporters.{mailboxOf, mailboxForm, reporterForm, report
 use Rattle.tables.specs.Reporters.{hasCode, hasAddress, hasMailbox, rowByCode, rowByAddress}
 use Rattle.tables.specs.Currencies.{isSpecial, isMoney, currencyOk, currenciesOk}
 use Rattle.ledger.specs.Row.{rowSize}
-use Rattle.ledger.specs.Sound.{compartmentSize, ledgerSize, bankCount, soundLedger}
+use Rattle.tables.specs.Tables.{tablesOf, tablesFlaw}
+use Rattle.tables.proofs.FlawLaws.{tables-pass}
+use Rattle.ledger.specs.Sound.{compartmentSize, ledgerSize, bankCount, soundLedger, ledgerFlaw}
 use Rattle.ledger.specs.Lookup.{freeRow, rowByNumber, liveRow}
+use Rattle.ledger.proofs.LedgerLaws.{flaw-none}
 use Rattle.ledger.proofs.EmptyLaws.{empty-ledger}
 use Rattle.booking.specs.Booking.{padded, newRow, entered, canBook, booked}
 use Rattle.sender.specs.Sender.{reporterRow, reporterTests, senderTests, senderCheck}
@@ -58,7 +60,7 @@ use Rattle.calls.specs.Call.{Call, called, recordForm, refusalOf, checke
 use Rattle.calls.specs.Rules.{rules}
 use Rattle.calls.specs.Filing.{fileLimit, reportCalls, openedReading, readingOf, answersIn, fileOutcome, carriedOut, fileOf}
 use Rattle.calls.specs.Worked.{workedReporters, workedCurrencies, workedSender, emptyLedger, r1Answer, r5Answer, r1Row, blankAnswer, workedFile}
-use Rattle.calls.proofs.CallLaws.{accepted-call, refusal-is}
+use Rattle.calls.proofs.CallLaws.{call-passes, accepted-call}
 use Rattle.calls.proofs.Demand3.{demand3}
 use Rattle.calls.proofs.ReadingLaws.{lent-none, reading-on}
 
@@ -70,6 +72,9 @@ worked-reporters = refl
 pub worked-currencies : currenciesOk workedCurrencies ≡ true
 unfolding workedCurrencies currenciesOk currencyOk isSpecial every part all same orderOf
 worked-currencies = refl
+
+worked-tables : tablesFlaw (tablesOf workedReporters workedCurrencies) ≡ 0
+worked-tables = tables-pass (tablesOf workedReporters workedCurrencies) worked-reporters worked-currencies
 
 pub empty-sound : soundLedger emptyLedger ≡ true
 unfolding emptyLedger
@@ -83,7 +88,7 @@ second : {A : Type 0} {a b c d : A} → a ∷ b ∷ [] ≡ c ∷ d ∷ [] → b 
 second e = head-eq-of-cons-eq (tail-eq-of-cons-eq e)
 
 -- a record called singly by the worked sender on the all-zero ledger
-abbrev calledAlone : List ℕ → Outcome (List ℕ)
+abbrev calledAlone : List ℕ → Outcome (List ℕ) (List ℕ)
 calledAlone s = single (rules workedReporters workedCurrencies) (called workedSender s) emptyLedger
 
 abbrev zeros : List ℕ
@@ -94,26 +99,25 @@ unfolding emptyLedger
 zeros-part = part-replicate compartmentSize 0 ledgerSize 0 (omega arith)
 
 -- a record in form is not refused there
-not-refused : (s : List ℕ) → recordForm s ≡ true → refusalOf workedReporters workedCurrencies (called workedSender s)
-    (I.soundLedger (rules workedReporters workedCurrencies) emptyLedger) ≡ 0
+not-refused : (s : List ℕ) → recordForm s ≡ true → refusalOf workedReporters workedCurrencies (called workedSender s) (ledgerFlaw emptyLedger) ≡ 0
 unfolding nameUpTo all
 not-refused s form =
     let call : Call = called workedSender s in
-    refusal-is workedReporters workedCurrencies call emptyLedger
-    (accepted-call workedReporters workedCurrencies call (soundLedger emptyLedger) worked-reporters worked-currencies empty-sound refl form)
+    sym (accepted-call workedReporters workedCurrencies call (ledgerFlaw emptyLedger) worked-tables (flaw-none emptyLedger empty-sound)
+    (call-passes call refl form))
 
 -- one that is in form and passes the sender check for row 0 is judged and booked on a compartment of zeros
 on-zeros : (s : List ℕ) → recordForm s ≡ true → rowOf (checkedOf workedReporters (called workedSender s)) ≡ 0
     → calledAlone s
     ≡ record {
       reply = accepted (answerBytes (stepAnswer workedReporters workedCurrencies 0 s zeros));
-      ledger = put compartmentSize 0 (stepCompartment workedReporters workedCurrencies 0 s zeros) emptyLedger;
+      store = put compartmentSize 0 (stepCompartment workedReporters workedCurrencies 0 s zeros) emptyLedger;
     }
 on-zeros s form row =
     single-step (rules workedReporters workedCurrencies) (called workedSender s) emptyLedger 0 (not-refused s form) row (omega arith)
     ∙ (λ i. record {
       reply = accepted (answerBytes (stepAnswer workedReporters workedCurrencies (row i) s (zeros-part i)));
-      ledger = put compartmentSize 0 (stepCompartment workedReporters workedCurrencies (row i) s (zeros-part i)) emptyLedger;
+      store = put compartmentSize 0 (stepCompartment workedReporters workedCurrencies (row i) s (zeros-part i)) emptyLedger;
     })
 
 -- what the step computes of R1 and R5 on a compartment of zeros
@@ -143,16 +147,16 @@ steps = refl
 -- R1 is booked in row 0 of compartment 0, and the rest of the ledger stays; R5 is answered with its set, and nothing is booked
 pub worked :
     map (λ r. single (rules workedReporters workedCurrencies) (called workedSender r) emptyLedger) (r1 ∷ r5 ∷ [])
-    ≡ record { reply = accepted r1Answer; ledger = put compartmentSize 0 (r1Row ++ replicate (compartmentSize - rowSize) 0) emptyLedger }
-    ∷ record { reply = accepted r5Answer; ledger = emptyLedger }
+    ≡ record { reply = accepted r1Answer; store = put compartmentSize 0 (r1Row ++ replicate (compartmentSize - rowSize) 0) emptyLedger }
+    ∷ record { reply = accepted r5Answer; store = emptyLedger }
     ∷ []
 worked =
     (λ i. on-zeros r1 (head-eq-of-cons-eq in-form) (head-eq-of-cons-eq passed-rows) i
     ∷ on-zeros r5 (second in-form) (second passed-rows) i ∷ [])
-    ∙ (λ i. (let step = head-eq-of-cons-eq steps i in record { reply = accepted (step .0); ledger = put compartmentSize 0 (step .1) emptyLedger })
-    ∷ (let step = second steps i in record { reply = accepted (step .0); ledger = put compartmentSize 0 (step .1) emptyLedger }) ∷ [])
-    ∙ (λ i. record { reply = accepted r1Answer; ledger = put compartmentSize 0 (r1Row ++ replicate (compartmentSize - rowSize) 0) emptyLedger }
-    ∷ record { reply = accepted r5Answer; ledger = kept i } ∷ [])
+    ∙ (λ i. (let step = head-eq-of-cons-eq steps i in record { reply = accepted (step .0); store = put compartmentSize 0 (step .1) emptyLedger })
+    ∷ (let step = second steps i in record { reply = accepted (step .0); store = put compartmentSize 0 (step .1) emptyLedger }) ∷ [])
+    ∙ (λ i. record { reply = accepted r1Answer; store = put compartmentSize 0 (r1Row ++ replicate (compartmentSize - rowSize) 0) emptyLedger }
+    ∷ record { reply = accepted r5Answer; store = kept i } ∷ [])
   where
     kept : put compartmentSize 0 zeros emptyLedger ≡ emptyLedger
     kept = ap (λ (c : List ℕ). put compartmentSize 0 c emptyLedger) (sym zeros-part) ∙ put-own compartmentSize 0 emptyLedger
@@ -166,7 +170,7 @@ module _ (room : ℕ) (one : answerSize ≤ room) where
   opened = rw (le-ltb room 0 (omega arith), le-ltb room 16 one) refl
 
 -- the call of the empty record: it fails at place 0, and is answered whatever the ledger holds
-blank-called : calledAlone [] ≡ record { reply = accepted blankAnswer; ledger = emptyLedger }
+blank-called : calledAlone [] ≡ record { reply = accepted blankAnswer; store = emptyLedger }
 unfolding blankAnswer recordForm all lowBytes checkedOf senderCheck senderTests isWhole semicolonsFrom added addedFrom holds answerOf codes codeAt
     statusAt trailingZeros answerBytes
 blank-called = single-stranger (rules workedReporters workedCurrencies) (called workedSender []) emptyLedger (not-refused [] refl) (omega arith)
@@ -181,12 +185,13 @@ worked-bodies a one =
     (λ i. carriedOut workedReporters workedCurrencies ((read crlf (leb-true _ _ refl) ∙ head-eq-of-cons-eq both) i) emptyLedger a
     ∷ carriedOut workedReporters workedCurrencies ((read (crlf ++ crlf) (leb-true _ _ refl) ∙ second both) i) emptyLedger a ∷ [])
     ∙ (λ i. fileOutcome (accepted 0) emptyLedger a
-    ∷ fileOutcome (accepted 1) (blank-called i .ledger) (answersIn (blank-called i .reply ∷ []) ++ drop answerSize a) ∷ [])
+    ∷ fileOutcome (accepted 1) (blank-called i .store) (answersIn (blank-called i .reply ∷ []) ++ drop answerSize a) ∷ [])
     ∙ rw append-nil refl
   where
     read : (body : List ℕ) → length (workedFile body) ≤ fileLimit
-        → readingOf workedReporters workedCurrencies (workedFile body) (length a) (soundLedger emptyLedger)
+        → readingOf workedReporters workedCurrencies (workedFile body) (length a) (ledgerFlaw emptyLedger)
         ≡ openedReading (workedFile body) (length a) (reportOf (workedFile body))
     read body short =
-        reading-on workedReporters workedCurrencies (workedFile body) (soundLedger emptyLedger) (length a)
-        (sym (lent-none workedReporters workedCurrencies (workedFile body) (soundLedger emptyLedger) short worked-reporters worked-currencies empty-sound))
+        reading-on workedReporters workedCurrencies (workedFile body) (ledgerFlaw emptyLedger) (length a)
+        (sym (lent-none workedReporters workedCurrencies (workedFile body) (ledgerFlaw emptyLedger) short worked-tables
+        (flaw-none emptyLedger empty-sound)))

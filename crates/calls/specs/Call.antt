@@ -1,10 +1,11 @@
 -- The single-record call of document 01: its refusals, its sender check, its answer and its booking.
 -- Assumes nothing.
 use Prim.Native.Nat.{ℕ}
-use mathlib.Core.Bool.{Bool, _&&_, not, cond}
-use mathlib.Core.List.{List}
+use mathlib.Core.Bool.{Bool, _&&_, cond}
+use mathlib.Core.List.{List, [], _∷_}
 use lib.Dec.{leb, eqb}
 use lib.ListN.{length}
+use Rattle.frame.specs.Reply.{unless, firstOf}
 use Rattle.text.specs.Class.{isRecordByte}
 use Rattle.text.specs.Bytes.{all}
 use Rattle.identifier.specs.Identifier.{nameUpTo}
@@ -14,8 +15,8 @@ use Rattle.failures.specs.Failures.{noFailure, firstPlace}
 use Rattle.failures.specs.Codes.{codeAt}
 use Rattle.fields.specs.Fields.{isWhole, fieldOf}
 use Rattle.fields.specs.Forms.{letter}
-use Rattle.tables.specs.Reporters.{reportersOk}
-use Rattle.tables.specs.Currencies.{currenciesOk, isMoney}
+use Rattle.tables.specs.Tables.{tablesOf, tablesFlaw}
+use Rattle.tables.specs.Currencies.{isMoney}
 use Rattle.booking.specs.Booking.{booked}
 use Rattle.sender.specs.declared.Checked.{Checked}
 use Rattle.sender.specs.declared.Checked.the-variants.{Passed, Failed}
@@ -44,14 +45,17 @@ noRow = 65535
 unfoldable pub recordForm : List ℕ → Bool
 recordForm «record» = leb (length «record») recordLimit && all isRecordByte «record»
 
--- the number by which a call is refused, the first that applies; 0 for none. Whether the ledger is sound is given
-unfoldable pub refusalOf : List ℕ → List ℕ → Call → Bool → ℕ
-refusalOf reporters currencies call sound =
-    cond (not (reportersOk reporters)) 2
-    (cond (not (currenciesOk currencies)) 3
-    (cond (not sound) 4
-    (cond (not (nameUpTo 8 (call .sender))) 13
-    (cond (not (recordForm (call .«record»))) 14 0))))
+-- the number by which its sender or its record refuses a call, the first that applies; 0 for none
+unfoldable pub callFlaw : Call → ℕ
+callFlaw call =
+    firstOf
+    (unless (nameUpTo 8 (call .sender)) 13
+    ∷ unless (recordForm (call .«record»)) 14
+    ∷ [])
+
+-- the number by which a call is refused: 2, 3, 4, 13, 14, the first that applies; 0 for none. The ledger's own number is given
+unfoldable pub refusalOf : List ℕ → List ℕ → Call → ℕ → ℕ
+refusalOf reporters currencies call held = firstOf (tablesFlaw (tablesOf reporters currencies) ∷ held ∷ callFlaw call ∷ [])
 
 -- the sender check of a call's record
 unfoldable pub checkedOf : List ℕ → Call → Checked

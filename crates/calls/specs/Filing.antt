@@ -1,15 +1,14 @@
 -- The file call of document 01: refusals 1 to 12, and an accepted file as its records called singly, by its sender, in file order.
 -- Assumes nothing.
 use Prim.Native.Nat.{ℕ, _*_}
-use mathlib.Core.Bool.{Bool, not, cond}
+use mathlib.Core.Bool.{cond}
 use mathlib.Core.List.{List, [], _∷_, _++_, map}
-use lib.Dec.{eqb, ltb}
+use lib.Dec.{leb, eqb, ltb}
 use lib.ListN.{length, drop}
-use Rattle.frame.specs.Reply.{Reply, refused, accepted}
-use Rattle.frame.specs.Isolation.{replies, ledgerAfter}
-use Rattle.tables.specs.Reporters.{reportersOk}
-use Rattle.tables.specs.Currencies.{currenciesOk}
-use Rattle.ledger.specs.Sound.{soundLedger}
+use Rattle.frame.specs.Reply.{Reply, refused, accepted, unless, firstOf}
+use Rattle.frame.specs.Isolation.{replies, storeAfter}
+use Rattle.tables.specs.Tables.{tablesOf, tablesFlaw}
+use Rattle.ledger.specs.Sound.{ledgerFlaw}
 use Rattle.answer.specs.Answer.{answerSize}
 use Rattle.envelope.specs.declared.Layout.{Layout}
 use Rattle.envelope.specs.Envelope.{reportOf, senderOf, recordsFrom}
@@ -20,13 +19,10 @@ use Rattle.calls.specs.Rules.{rules}
 abbrev pub fileLimit : ℕ
 fileLimit = 32768
 
--- 1 the file's length, 2 and 3 the tables, 4 the ledger: the first that applies, 0 for none. Whether the ledger is sound is given
-unfoldable pub lentRefusal : List ℕ → List ℕ → List ℕ → Bool → ℕ
-lentRefusal reporters currencies file sound =
-    cond (ltb fileLimit (length file)) 1
-    (cond (not (reportersOk reporters)) 2
-    (cond (not (currenciesOk currencies)) 3
-    (cond (not sound) 4 0)))
+-- the number by which a file call is refused for what it is lent: 1, 2, 3, 4, the first that applies; 0 for none. The ledger's own number is given
+unfoldable pub lentRefusal : List ℕ → List ℕ → List ℕ → ℕ → ℕ
+lentRefusal reporters currencies file held =
+    firstOf (unless (leb (length file) fileLimit) 1 ∷ tablesFlaw (tablesOf reporters currencies) ∷ held ∷ [])
 
 -- a report's records called singly, by its sender, in file order
 unfoldable pub reportCalls : List ℕ → Layout → List Call
@@ -38,9 +34,9 @@ openedReading file room (refused n) = refused n
 openedReading file room (accepted l) = cond (ltb room (l .records * answerSize)) (refused 12) (accepted (reportCalls file l))
 
 -- what a file call comes to before any record is judged: 1 to 4, then the envelope and the buffer, the first that applies
-unfoldable pub readingOf : List ℕ → List ℕ → List ℕ → ℕ → Bool → Reply (List Call)
-readingOf reporters currencies file room sound =
-    let n = lentRefusal reporters currencies file sound in cond (eqb n 0) (openedReading file room (reportOf file)) (refused n)
+unfoldable pub readingOf : List ℕ → List ℕ → List ℕ → ℕ → ℕ → Reply (List Call)
+readingOf reporters currencies file room held =
+    let n = lentRefusal reporters currencies file held in cond (eqb n 0) (openedReading file room (reportOf file)) (refused n)
 
 -- the answers of replies, one after another
 unfoldable pub answersIn : List (Reply (List ℕ)) → List ℕ
@@ -51,20 +47,20 @@ answersIn (accepted a ∷ ws) = a ++ answersIn ws
 -- what a file call returns and leaves
 pub record FileOutcome : Type 0 where
   pub reply : Reply ℕ
-  pub ledger : List ℕ
+  pub store : List ℕ
   pub buffer : List ℕ
 
 abbrev pub fileOutcome : Reply ℕ → List ℕ → List ℕ → FileOutcome
-fileOutcome r l a = record { reply = r; ledger = l; buffer = a }
+fileOutcome r l a = record { reply = r; store = l; buffer = a }
 
 module _ (reporters currencies : List ℕ) where
   -- refused: nothing is changed. Accepted: the count of records; the ledger and the answers are those of its calls, from the buffer's start; the rest stays
   unfoldable pub carriedOut : Reply (List Call) → List ℕ → List ℕ → FileOutcome
   carriedOut (refused n) l a = fileOutcome (refused n) l a
   carriedOut (accepted calls) l a =
-      fileOutcome (accepted (length calls)) (ledgerAfter (rules reporters currencies) calls l)
+      fileOutcome (accepted (length calls)) (storeAfter (rules reporters currencies) calls l)
       (answersIn (replies (rules reporters currencies) calls l) ++ drop (length calls * answerSize) a)
 
   -- the file call
   unfoldable pub fileOf : List ℕ → List ℕ → List ℕ → FileOutcome
-  fileOf file l a = carriedOut (readingOf reporters currencies file (length a) (soundLedger l)) l a
+  fileOf file l a = carriedOut (readingOf reporters currencies file (length a) (ledgerFlaw l)) l a

@@ -7,7 +7,7 @@ use mathlib.Core.Path.{_≡_}
 use lib.Dec.{eqb}
 use lib.ListN.{length, take}
 use Rattle.frame.specs.Reply.{Reply, refused, accepted, refusalIn}
-use Rattle.frame.specs.Isolation.{Isolated, single, replies, ledgerAfter}
+use Rattle.frame.specs.Isolation.{Isolated, single, replies, storeAfter}
 use Rattle.text.specs.Bytes.{all}
 use Rattle.answer.specs.Answer.{answerSize}
 use Rattle.calls.specs.Call.{Call, refusalOf}
@@ -38,9 +38,9 @@ manyAnswers (accepted calls) = accepted (length calls)
 
 module _ (reporters currencies : List ℕ) where
   -- what a request leaves, answers and returns, on the ledger as it then is
-  abbrev pub requestLedger : Request → List ℕ → List ℕ
-  requestLedger (record-call c) l = single (rules reporters currencies) c l .ledger
-  requestLedger (file-call file a) l = fileOf reporters currencies file l a .ledger
+  abbrev pub requestStore : Request → List ℕ → List ℕ
+  requestStore (record-call c) l = single (rules reporters currencies) c l .store
+  requestStore (file-call file a) l = fileOf reporters currencies file l a .store
 
   abbrev pub requestAnswers : Request → List ℕ → List ℕ
   requestAnswers (record-call c) l = answersIn (single (rules reporters currencies) c l .reply ∷ [])
@@ -51,17 +51,17 @@ module _ (reporters currencies : List ℕ) where
   requestReply (file-call file a) l = fileOf reporters currencies file l a .reply
 
   -- a list of requests, each on the ledger that the last one left
-  abbrev pub ledgerOver : List Request → List ℕ → List ℕ
-  ledgerOver [] l = l
-  ledgerOver (q ∷ qs) l = ledgerOver qs (requestLedger q l)
+  abbrev pub storeOver : List Request → List ℕ → List ℕ
+  storeOver [] l = l
+  storeOver (q ∷ qs) l = storeOver qs (requestStore q l)
 
   abbrev pub answersOver : List Request → List ℕ → List ℕ
   answersOver [] l = []
-  answersOver (q ∷ qs) l = requestAnswers q l ++ answersOver qs (requestLedger q l)
+  answersOver (q ∷ qs) l = requestAnswers q l ++ answersOver qs (requestStore q l)
 
   abbrev pub repliesOver : List Request → List ℕ → List (Reply ℕ)
   repliesOver [] l = []
-  repliesOver (q ∷ qs) l = requestReply q l ∷ repliesOver qs (requestLedger q l)
+  repliesOver (q ∷ qs) l = requestReply q l ∷ repliesOver qs (requestStore q l)
 
   -- the single-record calls that a request stands for, the ledger being sound: none for a refused file
   abbrev pub callsOf : Reply (List Call) → List Call
@@ -70,7 +70,7 @@ module _ (reporters currencies : List ℕ) where
 
   abbrev pub requestCalls : Request → List Call
   requestCalls (record-call c) = c ∷ []
-  requestCalls (file-call file a) = callsOf (readingOf reporters currencies file (length a) true)
+  requestCalls (file-call file a) = callsOf (readingOf reporters currencies file (length a) 0)
 
   abbrev pub callsOver : List Request → List Call
   callsOver [] = []
@@ -78,13 +78,13 @@ module _ (reporters currencies : List ℕ) where
 
   -- what a request returns on every sound ledger
   abbrev pub soundReply : Request → Reply ℕ
-  soundReply (record-call c) = let n = refusalOf reporters currencies c true in cond (eqb n 0) (accepted 1) (refused n)
-  soundReply (file-call file a) = manyAnswers (readingOf reporters currencies file (length a) true)
+  soundReply (record-call c) = let n = refusalOf reporters currencies c 0 in cond (eqb n 0) (accepted 1) (refused n)
+  soundReply (file-call file a) = manyAnswers (readingOf reporters currencies file (length a) 0)
 
   -- The claim: the ledger and the answers are those of the single-record calls that the requests stand for, and demand 3 holds of these; each request
   -- returns what it returns on every sound ledger, and 4 is never among the refusals.
   pub record FilesIsolated (qs : List Request) (l : List ℕ) : Type 0 where
-    pub sameLedger : ledgerOver qs l ≡ ledgerAfter (rules reporters currencies) (callsOver qs) l
+    pub sameStore : storeOver qs l ≡ storeAfter (rules reporters currencies) (callsOver qs) l
     pub sameAnswers : answersOver qs l ≡ answersIn (replies (rules reporters currencies) (callsOver qs) l)
     pub sameReplies : repliesOver qs l ≡ map soundReply qs
     pub neverFour : all (λ n. not (eqb n 4)) (map refusalIn (repliesOver qs l)) ≡ true

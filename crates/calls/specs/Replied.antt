@@ -21,5 +21,5 @@ filedAs (File.Refused n) = refused n
 filedAs (File.Count n) = accepted n
 
 -- a single-record call's reply, and the ledger that it leaves
-abbrev pub outcome : Replied → List ℕ → Outcome (List ℕ)
-outcome r l = record { reply = repliedAs r; ledger = l }
+abbrev pub outcome : Replied → List ℕ → Outcome (List ℕ) (List ℕ)
+outcome r l = record { reply = repliedAs r; store = l }

@@ -1,9 +1,11 @@
 -- The rules of document 01 as the theorem on isolation reads them: what a list of single-record calls is run under, for a pair of tables.
+-- The store is the ledger, and a bank's part of it is its compartment.
 -- Assumes nothing.
 use Prim.Native.Nat.{ℕ}
 use mathlib.Core.List.{List}
 use Rattle.frame.specs.Isolation.{Rules}
-use Rattle.ledger.specs.Sound.{bankCount, compartmentSize, soundCompartment}
+use Rattle.frame.specs.Parts.{part, put}
+use Rattle.ledger.specs.Sound.{bankCount, compartmentSize, ledgerFlaw}
 use Rattle.answer.specs.Answer.{answerBytes}
 use Rattle.calls.specs.Call.{Call, noRow, refusalOf, checkedOf, rowOf, failedOf, noReporter, answerOf, stepAnswer, stepCompartment}
 
@@ -11,9 +13,12 @@ abbrev pub rules : List ℕ → List ℕ → Rules
 rules reporters currencies = record {
   Call = Call;
   Answer = List ℕ;
+  Store = List ℕ;
+  State = List ℕ;
   banks = bankCount;
-  size = compartmentSize;
-  sound = soundCompartment;
+  own = part compartmentSize;
+  keep = put compartmentSize;
+  flaw = ledgerFlaw;
   refusal = refusalOf reporters currencies;
   bank = λ call. rowOf (checkedOf reporters call);
   stranger = λ call. answerBytes (answerOf (failedOf (checkedOf reporters call)) noReporter noRow (call .«record»));

@@ -1,7 +1,7 @@
 // The file call: the records of a report, called singly by its sender.
 ghost use mathlib.Core.Path.{_≡_};
 ghost use Rattle.frame.specs.Reply.{accepted, refusalIn};
-ghost use Rattle.ledger.specs.Sound.{soundLedger};
+ghost use Rattle.ledger.specs.Sound.{ledgerFlaw};
 ghost use Rattle.envelope.specs.Envelope.{openedAs};
 ghost use Rattle.calls.specs.Replied.{filedAs};
 ghost use Rattle.calls.specs.Filing.{lentRefusal, fileOutcome, carriedOut, fileOf};
@@ -27,21 +27,16 @@ fn lent_refusal<'a>(
     currencies: &'a [u8],
     ledger: &'a [u8],
 ) -> u8
-    ensures { λ r. ⌜ r ≡ lentRefusal (now (reporters .entry)) (now (currencies .entry)) (now (file .entry)) (soundLedger (now (ledger .entry))) ⌝ }
+    ensures { λ r. ⌜ r ≡ lentRefusal (now (reporters .entry)) (now (currencies .entry)) (now (file .entry)) (ledgerFlaw (now (ledger .entry))) ⌝ }
 {
     if FILE_LIMIT < file.len() {
         return 1;
     }
-    if !tables::reporters_ok(reporters) {
-        return 2;
+    let lent = tables::flaw(reporters, currencies);
+    if lent != 0 {
+        return lent;
     }
-    if !tables::currencies_ok(currencies) {
-        return 3;
-    }
-    if !ledger::sound_ledger(ledger) {
-        return 4;
-    }
-    0
+    ledger::flaw(ledger)
 }
 
 // Calls the record at a place of the body singly, and writes its answer as number k. The result is the next record's place.

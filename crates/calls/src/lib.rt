@@ -7,8 +7,8 @@ ghost use Rattle.frame.specs.Isolation.{single};
 ghost use Rattle.decimal.specs.Decimal.{decimalOf, valueOf};
 ghost use Rattle.fields.specs.Fields.{stopsOf};
 ghost use Rattle.tables.specs.Currencies.{currenciesOk};
-ghost use Rattle.ledger.specs.Sound.{bankCount, soundLedger};
-ghost use Rattle.calls.specs.Call.{recordLimit, noReporter, noRow, failedOf, recordForm, refusalOf, called};
+ghost use Rattle.ledger.specs.Sound.{bankCount, ledgerFlaw};
+ghost use Rattle.calls.specs.Call.{recordLimit, noReporter, noRow, failedOf, recordForm, callFlaw, refusalOf, called};
 ghost use Rattle.calls.specs.Call.{answerOf, bookedAs, stepAnswer, stepCompartment};
 ghost use Rattle.calls.specs.Rules.{rules};
 ghost use Rattle.calls.specs.Replied.{outcome};
@@ -43,7 +43,20 @@ fn is_record(record: &[u8]) -> bool
     record.len() <= RECORD_LIMIT && text::all(Class::RecordByte, record)
 }
 
-// The number by which a call is refused, the first that applies; 0 for none.
+// The number by which its sender or its record refuses a call: 13, 14, the first that applies; 0 for none.
+fn call_flaw<'a>(sender: &'a [u8], record: &'a [u8]) -> u8
+    ensures { λ r. ⌜ r ≡ callFlaw (called (now (sender .entry)) (now («record» .entry))) ⌝ }
+{
+    if !identifier::is_name(sender, 8) {
+        return 13;
+    }
+    if !is_record(record) {
+        return 14;
+    }
+    0
+}
+
+// The number by which a call is refused: 2, 3, 4, 13, 14, the first that applies; 0 for none.
 pub fn refusal<'a>(
     reporters: &'a [u8],
     currencies: &'a [u8],
@@ -52,24 +65,17 @@ pub fn refusal<'a>(
     record: &'a [u8],
 ) -> u8
     ensures { λ r. ⌜ r ≡ refusalOf (now (reporters .entry)) (now (currencies .entry)) (called (now (sender .entry)) (now («record» .entry)))
-        (soundLedger (now (ledger .entry))) ⌝ }
+        (ledgerFlaw (now (ledger .entry))) ⌝ }
 {
-    if !tables::reporters_ok(reporters) {
-        return 2;
+    let lent = tables::flaw(reporters, currencies);
+    if lent != 0 {
+        return lent;
     }
-    if !tables::currencies_ok(currencies) {
-        return 3;
+    let held = ledger::flaw(ledger);
+    if held != 0 {
+        return held;
     }
-    if !ledger::sound_ledger(ledger) {
-        return 4;
-    }
-    if !identifier::is_name(sender, 8) {
-        return 13;
-    }
-    if !is_record(record) {
-        return 14;
-    }
-    0
+    call_flaw(sender, record)
 }
 
 // The answer to a record with these failures, for a reporter's row, booked in a new row.
@@ -159,7 +165,7 @@ pub(crate) fn admitted<'a>(
     sender: &'a [u8],
     record: &'a [u8],
 ) -> Answer
-    requires { ⌜ refusalOf (now reporters) (now currencies) (called (now sender) (now «record»)) (soundLedger (now ledger)) ≡ 0 ⌝ }
+    requires { ⌜ refusalOf (now reporters) (now currencies) (called (now sender) (now «record»)) (ledgerFlaw (now ledger)) ≡ 0 ⌝ }
     ensures { λ r. ⌜ outcome (Answered r) (now (ledger .exit)) ≡ single (rules (now (reporters .entry)) (now (currencies .entry)))
         (called (now (sender .entry)) (now («record» .entry))) (now (ledger .entry)) ⌝ }
 {

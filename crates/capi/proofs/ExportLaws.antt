@@ -4,6 +4,7 @@ use Prim.Native.Nat.{ℕ, _≤_, _<_}
 use native.Mathlib.Omega.{arith}
 use mathlib.Core.Bool.{Bool, true, false, cond}
 use mathlib.Core.List.{List, [], _∷_}
+use mathlib.Core.Logic.{_≢_}
 use mathlib.Core.Path.{_≡_, refl, ap, sym, _∙_}
 use borrow.Author.Tests.{eq-eqb, ne-eqb, eqb-true, eqb-false, lt-ltb, le-ltb, le-leb, ltb-true, ltb-false}
 use lib.Dec.{eqb, ltb}
@@ -11,7 +12,7 @@ use lib.ListN.{length}
 use Rattle.frame.specs.Reply.{Reply, refused, accepted}
 use Rattle.frame.specs.Isolation.{Outcome, single}
 use Rattle.frame.proofs.Isolation.{single-refused, single-stranger, single-step}
-use Rattle.ledger.specs.Sound.{bankCount, soundLedger}
+use Rattle.ledger.specs.Sound.{bankCount, ledgerFlaw}
 use Rattle.answer.specs.declared.Answer.{Answer}
 use Rattle.answer.specs.Answer.{answerSize, answerBytes, answerPut}
 use Rattle.calls.specs.declared.Replied.{Replied}
@@ -22,11 +23,10 @@ use Rattle.calls.specs.Call.{Call, called, refusalOf, checkedOf, rowOf}
 use Rattle.calls.specs.Rules.{rules}
 use Rattle.calls.specs.Replied.{filedAs, outcome}
 use Rattle.calls.specs.Filing.{FileOutcome, fileOutcome, readingOf, carriedOut, fileOf}
-use Rattle.calls.proofs.CallLaws.{refusal-is}
 use Rattle.capi.specs.Exported.{exported, shortNumber, recordReply, recordExport, fileReply, fileExport}
 
 -- a call whose buffer is too short: its own refusal, else 12
-pub short-refused : {n m r : ℕ} → n ≡ r → (n ≡ 0 → ⊥) → m ≡ n → m ≡ shortNumber r
+pub short-refused : {n m r : ℕ} → n ≡ r → n ≢ 0 → m ≡ n → m ≡ shortNumber r
 short-refused e h q = q ∙ e ∙ rw (ne-eqb _ 0 (λ z. h (e ∙ z))) refl
 
 pub short-free : {n r : ℕ} → n ≡ r → n ≡ 0 → 12 ≡ shortNumber r
@@ -37,9 +37,9 @@ module _ (reporters currencies sender s l : List ℕ) where
   call = called sender s
 
   abbrev number : ℕ
-  number = refusalOf reporters currencies call (soundLedger l)
+  number = refusalOf reporters currencies call (ledgerFlaw l)
 
-  abbrev done : Outcome (List ℕ)
+  abbrev done : Outcome (List ℕ) (List ℕ)
   done = single (rules reporters currencies) call l
 
   -- a call that is not refused is answered, and a refused one leaves the ledger
@@ -49,17 +49,15 @@ module _ (reporters currencies sender s l : List ℕ) where
       go : (b : Bool) → ltb (rowOf (checkedOf reporters call)) bankCount ≡ b → (w : List ℕ) × (done .reply ≡ accepted w)
       go true h = (
         _,
-        ap (λ (o : Outcome (List ℕ)). o .reply)
-            (single-step (rules reporters currencies) call l _ (refusal-is reporters currencies call l (sym e)) refl (ltb-true _ _ h)),
+        ap (λ (o : Outcome (List ℕ) (List ℕ)). o .reply) (single-step (rules reporters currencies) call l _ e refl (ltb-true _ _ h)),
       )
       go false h = (
         _,
-        ap (λ (o : Outcome (List ℕ)). o .reply)
-            (single-stranger (rules reporters currencies) call l (refusal-is reporters currencies call l (sym e)) (ltb-false _ _ h)),
+        ap (λ (o : Outcome (List ℕ) (List ℕ)). o .reply) (single-stranger (rules reporters currencies) call l e (ltb-false _ _ h)),
       )
 
-  pub is-refused : (number ≡ 0 → ⊥) → done ≡ record { reply = refused number; ledger = l }
-  is-refused n = single-refused (rules reporters currencies) call l number (refusal-is reporters currencies call l refl) n
+  pub is-refused : number ≢ 0 → done ≡ record { reply = refused number; store = l }
+  is-refused = single-refused (rules reporters currencies) call l number refl
 
   module _ (a : List ℕ) where
     pub short-exported : {r : ℕ} → length a < answerSize → r ≡ shortNumber number → exported r l a [] ≡ recordExport reporters currencies sender s l a
@@ -79,12 +77,12 @@ module _ (reporters currencies sender s l : List ℕ) where
         go : outcome (Refused n) m ≡ done → (b : Bool) → eqb number 0 ≡ b → exported n m a [] ≡ recordReply done l a (done .reply)
         go e true q =
             let w = is-answered (eqb-true _ _ q) in
-            let z : refused n ≡ accepted (w .0) = ap (λ (o : Outcome (List ℕ)). o .reply) e ∙ w .1 in
+            let z : refused n ≡ accepted (w .0) = ap (λ (o : Outcome (List ℕ) (List ℕ)). o .reply) e ∙ w .1 in
             let y : _≡_ {A = ℕ} 0 1 = cc in
             absurd (omega arith)
         go e false q =
-            let same : m ≡ l = ap (λ (o : Outcome (List ℕ)). o .ledger) (e ∙ is-refused (eqb-false _ _ q)) in
-            let told : done .reply ≡ refused n = sym (ap (λ (o : Outcome (List ℕ)). o .reply) e) in
+            let same : m ≡ l = ap (λ (o : Outcome (List ℕ) (List ℕ)). o .store) (e ∙ is-refused (eqb-false _ _ q)) in
+            let told : done .reply ≡ refused n = sym (ap (λ (o : Outcome (List ℕ) (List ℕ)). o .reply) e) in
             rw (told, same) refl
 
     pub answered-exported : {r : Replied} (w : Answer) (m : List ℕ) {b : List ℕ} → answerSize ≤ length a → r ≡ Answered w → outcome r m ≡ done
@@ -92,15 +90,15 @@ module _ (reporters currencies sender s l : List ℕ) where
     unfolding recordExport answerPut
     answered-exported {r} w m {b} h q o p =
         let e : outcome (Answered w) m ≡ done = ap (λ (x : Replied). outcome x m) (sym q) ∙ o in
-        let reply : done .reply ≡ accepted (answerBytes w) = sym (ap (λ (o : Outcome (List ℕ)). o .reply) e) in
-        let ledger : m ≡ done .ledger = ap (λ (o : Outcome (List ℕ)). o .ledger) e in
+        let reply : done .reply ≡ accepted (answerBytes w) = sym (ap (λ (o : Outcome (List ℕ) (List ℕ)). o .reply) e) in
+        let ledger : m ≡ done .store = ap (λ (o : Outcome (List ℕ) (List ℕ)). o .store) e in
         rw (p, le-leb _ _ h, reply, le-ltb _ _ h, ledger) refl
 
 -- a refused file call leaves ledger and buffer
 pub file-kept : (reporters currencies file l a : List ℕ) (n : ℕ) → fileOf reporters currencies file l a .reply ≡ refused n
     → fileOf reporters currencies file l a ≡ fileOutcome (refused n) l a
 unfolding fileOf carriedOut
-file-kept reporters currencies file l a n = go (readingOf reporters currencies file (length a) (soundLedger l))
+file-kept reporters currencies file l a n = go (readingOf reporters currencies file (length a) (ledgerFlaw l))
   where
     go : (w : Reply (List Call)) → carriedOut reporters currencies w l a .reply ≡ refused n
         → carriedOut reporters currencies w l a ≡ fileOutcome (refused n) l a
@@ -115,10 +113,10 @@ module _ (reporters currencies file l a : List ℕ) (r : Filed) (m b : List ℕ)
   file-refused {n} e w =
       let reply : fileOf reporters currencies file l a .reply ≡ refused n = sym (ap (λ (x : FileOutcome). x .reply) o) ∙ ap filedAs e in
       let kept : fileOutcome (filedAs r) m b ≡ fileOutcome (refused n) l a = o ∙ file-kept reporters currencies file l a n reply in
-      (λ i. exported (w i) (kept i .ledger) (kept i .buffer) (word ∷ [])) ∙ rw reply refl
+      (λ i. exported (w i) (kept i .store) (kept i .buffer) (word ∷ [])) ∙ rw reply refl
 
   pub file-counted : {n : ℕ} → r ≡ File.Count n → exported 0 m b (n ∷ []) ≡ fileExport reporters currencies file l a word
   unfolding fileExport
   file-counted {n} e =
       let reply : fileOf reporters currencies file l a .reply ≡ accepted n = sym (ap (λ (x : FileOutcome). x .reply) o) ∙ ap filedAs e in
-      (λ i. exported 0 (o i .ledger) (o i .buffer) (n ∷ [])) ∙ rw reply refl
+      (λ i. exported 0 (o i .store) (o i .buffer) (n ∷ [])) ∙ rw reply refl

@@ -4,6 +4,7 @@ use Prim.Native.Nat.{ℕ, _*_}
 use native.Mathlib.Omega.{arith}
 use mathlib.Core.Bool.{Bool, true, false, not, cond}
 use mathlib.Core.List.{List, [], _∷_, _++_, append-nil, map}
+use mathlib.Core.Logic.{_≢_}
 use mathlib.Core.Path.{_≡_, refl, ap, sym, _∙_}
 use borrow.Author.Tests.{eqb-true, eqb-false, ne-eqb}
 use lib.Dec.{eqb, ltb}
@@ -13,148 +14,141 @@ use Rattle.frame.specs.Reply.{Reply, refused, accepted, refusalIn}
 use Rattle.frame.specs.Isolation.{Outcome, single}
 use Rattle.frame.proofs.BoolLaws.{and-intro}
 use Rattle.text.specs.Bytes.{all}
-use Rattle.ledger.specs.Sound.{soundLedger}
+use Rattle.ledger.specs.Sound.{soundLedger, ledgerFlaw}
+use Rattle.ledger.proofs.LedgerLaws.{flaw-none}
 use Rattle.answer.specs.Answer.{answerSize}
 use Rattle.calls.specs.Call.{Call, called, refusalOf}
 use Rattle.calls.specs.Rules.{rules}
 use Rattle.calls.specs.Filing.{FileOutcome, readingOf, answersIn, fileOf}
-use Rattle.calls.specs.Mixed.{Request, record-call, file-call, answersOf, manyAnswers, ledgerOver, answersOver}
+use Rattle.calls.specs.Mixed.{Request, record-call, file-call, answersOf, manyAnswers, storeOver, answersOver}
 use Rattle.calls.proofs.CallLaws.{refusal-never-four}
 use Rattle.calls.proofs.ListLaws.{single-answered}
-use Rattle.calls.proofs.ReadingLaws.{reading-refused}
-use Rattle.calls.proofs.Files.{demand3-files, file-told, sound-never-four, over-append, over-sound}
+use Rattle.calls.proofs.ReadingLaws.{many-refusal, reading-refused, reading-never-four}
+use Rattle.calls.proofs.Files.{demand3-files, file-told, over-append, over-in-order}
 use Rattle.capi.specs.Exported.{Exported, recordReply, recordExport, fileReply, fileExport, shortNumber}
-use Rattle.capi.specs.Exports.{Export, record-export, file-export, exportOf, exportAnswers, ledgerThrough, answersThrough, repliesThrough}
+use Rattle.capi.specs.Exports.{Export, record-export, file-export, exportOf, exportAnswers, storeThrough, answersThrough, repliesThrough}
 use Rattle.capi.specs.Exports.{exportRequests, requestsOver, soundNumber, ExportsIsolated}
 use Rattle.capi.proofs.ExportLaws.{is-answered, is-refused, file-kept}
 
 module _ (reporters currencies : List ℕ) where
   -- an exported call leaves and answers what the requests do that it stands for, and returns what it returns on every sound ledger
   record Same (x : Export) (l : List ℕ) : Type 0 where
-    ledger : exportOf reporters currencies x l .ledger ≡ ledgerOver reporters currencies (exportRequests reporters currencies x) l
+    store : exportOf reporters currencies x l .store ≡ storeOver reporters currencies (exportRequests reporters currencies x) l
     answers : exportAnswers reporters currencies x l ≡ answersOver reporters currencies (exportRequests reporters currencies x) l
     number : exportOf reporters currencies x l .reply ≡ soundNumber reporters currencies x
 
-  record-same : (sender s a l : List ℕ) → soundLedger l ≡ true → Same (record-export sender s a) l
+  record-same : (sender s a l : List ℕ) → ledgerFlaw l ≡ 0 → Same (record-export sender s a) l
   unfolding recordExport answersIn
-  record-same sender s a l h = go (ltb (length a) answerSize) (eqb (refusalOf reporters currencies (called sender s) true) 0) refl refl
+  record-same sender s a l h = go (ltb (length a) answerSize) (eqb (refusalOf reporters currencies (called sender s) 0) 0) refl refl
     where
-      number : refusalOf reporters currencies (called sender s) (soundLedger l) ≡ refusalOf reporters currencies (called sender s) true
+      number : refusalOf reporters currencies (called sender s) (ledgerFlaw l) ≡ refusalOf reporters currencies (called sender s) 0
       number = ap (refusalOf reporters currencies (called sender s)) h
 
-      go : (short free : Bool) → ltb (length a) answerSize ≡ short → eqb (refusalOf reporters currencies (called sender s) true) 0 ≡ free
+      go : (short free : Bool) → ltb (length a) answerSize ≡ short → eqb (refusalOf reporters currencies (called sender s) 0) 0 ≡ free
           → Same (record-export sender s a) l
       go true true p q =
           let told = is-answered reporters currencies sender s l (number ∙ eqb-true _ _ q) .1 in
-          record { ledger = rw (told, p) refl; answers = rw (told, p) refl; number = rw (told, p, q) refl }
+          record { store = rw (told, p) refl; answers = rw (told, p) refl; number = rw (told, p, q) refl }
       go false true p q =
           let free = number ∙ eqb-true _ _ q in
           let w = is-answered reporters currencies sender s l free in
           let sized : length (w .0) ≡ answerSize = rw (w .1, append-nil) at (single-answered reporters currencies (called sender s) l free) in
           record {
-            ledger = rw (w .1, p) refl;
+            store = rw (w .1, p) refl;
             answers =
                 rw (p, w .1, p) (take-at (w .0) (drop answerSize a) answerSize sized ∙ sym (append-nil (w .0 ++ []) ∙ append-nil (w .0)));
             number = rw (p, w .1, p) (sym (eqb-true _ _ q));
           }
       go true false p q =
           let told = is-refused reporters currencies sender s l (λ z. eqb-false _ _ q (sym number ∙ z)) in
-          record { ledger = rw (told, p) refl; answers = rw (told, p, number, q) refl; number = rw (told, p, q) number }
+          record { store = rw (told, p) refl; answers = rw (told, p, number, q) refl; number = rw (told, p, q) number }
       go false false p q =
           let told = is-refused reporters currencies sender s l (λ z. eqb-false _ _ q (sym number ∙ z)) in
           record {
-            ledger = rw (p, told) (sym (ap (λ (o : Outcome (List ℕ)). o .ledger) told));
+            store = rw (p, told) (sym (ap (λ (o : Outcome (List ℕ) (List ℕ)). o .store) told));
             answers = rw (p, told, number, q) refl;
             number = rw (p, told) number;
           }
 
-  file-same : (file a l : List ℕ) (word : ℕ) → soundLedger l ≡ true → Same (file-export file a word) l
+  file-same : (file a l : List ℕ) (word : ℕ) → ledgerFlaw l ≡ 0 → Same (file-export file a word) l
   unfolding fileExport
   file-same file a l word h = go (fileOf reporters currencies file l a .reply) refl
     where
-      told : refusalIn (fileOf reporters currencies file l a .reply) ≡ refusalIn (readingOf reporters currencies file (length a) true)
+      told : refusalIn (fileOf reporters currencies file l a .reply) ≡ refusalIn (readingOf reporters currencies file (length a) 0)
       told =
           ap refusalIn (file-told reporters currencies file l a)
-          ∙ ap (λ (b : Bool). refusalIn (manyAnswers (readingOf reporters currencies file (length a) b))) h
-          ∙ of (readingOf reporters currencies file (length a) true)
-        where
-          of : (w : Reply (List Call)) → refusalIn (manyAnswers w) ≡ refusalIn w
-          of (refused n) = refl
-          of (accepted calls) = refl
+          ∙ many-refusal (readingOf reporters currencies file (length a) (ledgerFlaw l))
+          ∙ ap (λ (n : ℕ). refusalIn (readingOf reporters currencies file (length a) n)) h
 
       go : (r : Reply ℕ) → fileOf reporters currencies file l a .reply ≡ r → Same (file-export file a word) l
       go (refused n) e =
           let kept = file-kept reporters currencies file l a n e in
           let some : eqb n 0 ≡ false = ne-eqb n 0 (refused-number n e) in
           record {
-            ledger = rw e (sym (ap (λ (o : FileOutcome). o .ledger) kept));
+            store = rw e (sym (ap (λ (o : FileOutcome). o .store) kept));
             answers = rw (e, some) refl;
             number = rw e (ap refusalIn (sym e) ∙ told);
           }
         where
-          refused-number : (n : ℕ) → fileOf reporters currencies file l a .reply ≡ refused n → n ≡ 0 → ⊥
-          refused-number n e = of (readingOf reporters currencies file (length a) (soundLedger l)) refl
+          refused-number : (n : ℕ) → fileOf reporters currencies file l a .reply ≡ refused n → n ≢ 0
+          refused-number n e = of (readingOf reporters currencies file (length a) (ledgerFlaw l)) refl
             where
-              of : (w : Reply (List Call)) → readingOf reporters currencies file (length a) (soundLedger l) ≡ w → n ≡ 0 → ⊥
+              of : (w : Reply (List Call)) → readingOf reporters currencies file (length a) (ledgerFlaw l) ≡ w → n ≡ 0 → ⊥
               of (refused m) q =
                   let same : m ≡ n = (let z : refused m ≡ refused n = ap manyAnswers (sym q) ∙ sym (file-told reporters currencies file l a) ∙ e in cc) in
-                  λ z. reading-refused reporters currencies file (length a) (soundLedger l) m q (same ∙ z)
+                  λ z. reading-refused reporters currencies file (length a) (ledgerFlaw l) m q (same ∙ z)
               of (accepted calls) q =
                   let z : accepted (length calls) ≡ refused n = ap manyAnswers (sym q) ∙ sym (file-told reporters currencies file l a) ∙ e in
                   let y : _≡_ {A = ℕ} 0 1 = cc in
                   absurd (omega arith)
-      go (accepted k) e = record { ledger = rw e refl; answers = rw (e, append-nil) refl; number = rw e (ap refusalIn (sym e) ∙ told) }
+      go (accepted k) e = record { store = rw e refl; answers = rw (e, append-nil) refl; number = rw e (ap refusalIn (sym e) ∙ told) }
 
-  export-same : (x : Export) (l : List ℕ) → soundLedger l ≡ true → Same x l
+  export-same : (x : Export) (l : List ℕ) → ledgerFlaw l ≡ 0 → Same x l
   export-same (record-export sender s a) l h = record-same sender s a l h
   export-same (file-export file a word) l h = file-same file a l word h
 
-  export-sound : (x : Export) (l : List ℕ) → soundLedger l ≡ true → soundLedger (exportOf reporters currencies x l .ledger) ≡ true
-  export-sound x l h = ap soundLedger (export-same x l h .ledger) ∙ over-sound reporters currencies (exportRequests reporters currencies x) l h
+  export-in-order : (x : Export) (l : List ℕ) → ledgerFlaw l ≡ 0 → ledgerFlaw (exportOf reporters currencies x l .store) ≡ 0
+  export-in-order x l h = ap ledgerFlaw (export-same x l h .store) ∙ over-in-order reporters currencies (exportRequests reporters currencies x) l h
 
   -- and so does a list of them
-  through : (xs : List Export) (l : List ℕ) → soundLedger l ≡ true
-      → (ledgerThrough reporters currencies xs l ≡ ledgerOver reporters currencies (requestsOver reporters currencies xs) l)
+  through : (xs : List Export) (l : List ℕ) → ledgerFlaw l ≡ 0
+      → (storeThrough reporters currencies xs l ≡ storeOver reporters currencies (requestsOver reporters currencies xs) l)
       × (answersThrough reporters currencies xs l ≡ answersOver reporters currencies (requestsOver reporters currencies xs) l)
       × (repliesThrough reporters currencies xs l ≡ map (soundNumber reporters currencies) xs)
   through [] l h = (refl, refl, refl)
   through (x ∷ xs) l h =
       let one = export-same x l h in
-      let rest = through xs (exportOf reporters currencies x l .ledger) (export-sound x l h) in
+      let rest = through xs (exportOf reporters currencies x l .store) (export-in-order x l h) in
       let qs : List Request = requestsOver reporters currencies xs in
       let joined = over-append reporters currencies (exportRequests reporters currencies x) qs l in (
-        rest .0 ∙ ap (ledgerOver reporters currencies qs) (one .ledger) ∙ sym (joined .0),
-        (λ i. one .answers i ++ (rest .1 ∙ ap (answersOver reporters currencies qs) (one .ledger)) i) ∙ sym (joined .1),
+        rest .0 ∙ ap (storeOver reporters currencies qs) (one .store) ∙ sym (joined .0),
+        (λ i. one .answers i ++ (rest .1 ∙ ap (answersOver reporters currencies qs) (one .store)) i) ∙ sym (joined .1),
         (λ i. one .number i ∷ rest .2 i),
       )
 
-  number-never-four : (x : Export) → not (eqb (soundNumber reporters currencies x) 4) ≡ true
+  number-never-four : (x : Export) → soundNumber reporters currencies x ≢ 4
   number-never-four (record-export sender s a) =
-      let n : ℕ = refusalOf reporters currencies (called sender s) true in
+      let n : ℕ = refusalOf reporters currencies (called sender s) 0 in
       go n (ltb (length a) answerSize) (eqb n 0) (refusal-never-four reporters currencies (called sender s))
     where
-      go : (n : ℕ) (short free : Bool) → not (eqb n 4) ≡ true → not (eqb (cond short (cond free 12 n) n) 4) ≡ true
-      go n true true h = refl
+      go : (n : ℕ) (short free : Bool) → n ≢ 4 → cond short (cond free 12 n) n ≢ 4
+      go n true true h = omega arith
       go n true false h = h
       go n false free h = h
-  number-never-four (file-export file a word) = go (readingOf reporters currencies file (length a) true) (sound-never-four reporters currencies (file-call file a))
-    where
-      go : (w : Reply (List Call)) → not (eqb (refusalIn (manyAnswers w)) 4) ≡ true → not (eqb (refusalIn w) 4) ≡ true
-      go (refused n) h = h
-      go (accepted calls) h = refl
+  number-never-four (file-export file a word) = reading-never-four reporters currencies file (length a)
 
   never-four : (xs : List Export) → all (λ n. not (eqb n 4)) (map (soundNumber reporters currencies) xs) ≡ true
   unfolding all
   never-four [] = refl
-  never-four (x ∷ xs) = and-intro _ _ (number-never-four x) (never-four xs)
+  never-four (x ∷ xs) = and-intro _ _ (ap not (ne-eqb _ 4 (number-never-four x))) (never-four xs)
 
   -- For every pair of tables, every list of exported calls, refused ones included, and every sound ledger: a single-record call whose buffer is too short is
   -- no step, and of the others demand 3 holds.
   pub demand3-exports : (xs : List Export) (l : List ℕ) → soundLedger l ≡ true → ExportsIsolated reporters currencies xs l
   demand3-exports xs l h =
-      let all-same = through xs l h in
+      let all-same = through xs l (flaw-none l h) in
       record {
-        sameLedger = all-same .0;
+        sameStore = all-same .0;
         sameAnswers = all-same .1;
         sameReplies = all-same .2;
         neverFour = rw (all-same .2) (never-four xs);

@@ -18,17 +18,17 @@ use Rattle.calls.specs.Filing.{FileOutcome, fileOf}
 -- the number that is returned, and the lent ledger, buffer and words as the call leaves them
 pub record Exported : Type 0 where
   pub reply : ℕ
-  pub ledger : List ℕ
+  pub store : List ℕ
   pub buffer : List ℕ
   pub words : List ℕ
 
 abbrev pub exported : ℕ → List ℕ → List ℕ → List ℕ → Exported
-exported n l a ws = record { reply = n; ledger = l; buffer = a; words = ws }
+exported n l a ws = record { reply = n; store = l; buffer = a; words = ws }
 
 -- a single-record call: the answer's sixteen bytes at the buffer's start. The last of its refusals is 12, a buffer under sixteen bytes
-abbrev pub recordReply : Outcome (List ℕ) → List ℕ → List ℕ → Reply (List ℕ) → Exported
+abbrev pub recordReply : Outcome (List ℕ) (List ℕ) → List ℕ → List ℕ → Reply (List ℕ) → Exported
 recordReply o l a (refused n) = exported n l a []
-recordReply o l a (accepted w) = cond (ltb (length a) answerSize) (exported 12 l a []) (exported 0 (o .ledger) (w ++ drop answerSize a) [])
+recordReply o l a (accepted w) = cond (ltb (length a) answerSize) (exported 12 l a []) (exported 0 (o .store) (w ++ drop answerSize a) [])
 
 unfoldable pub recordExport : List ℕ → List ℕ → List ℕ → List ℕ → List ℕ → List ℕ → Exported
 recordExport reporters currencies sender «record» l a =
@@ -37,7 +37,7 @@ recordExport reporters currencies sender «record» l a =
 -- a file call: its count of records in the lent word
 abbrev pub fileReply : FileOutcome → List ℕ → List ℕ → ℕ → Reply ℕ → Exported
 fileReply o l a word (refused n) = exported n l a (word ∷ [])
-fileReply o l a word (accepted count) = exported 0 (o .ledger) (o .buffer) (count ∷ [])
+fileReply o l a word (accepted count) = exported 0 (o .store) (o .buffer) (count ∷ [])
 
 unfoldable pub fileExport : List ℕ → List ℕ → List ℕ → List ℕ → List ℕ → ℕ → Exported
 fileExport reporters currencies file l a word = let o = fileOf reporters currencies file l a in fileReply o l a word (o .reply)

@@ -11,7 +11,7 @@ use Rattle.text.specs.Bytes.{all}
 use Rattle.answer.specs.Answer.{answerSize}
 use Rattle.calls.specs.Call.{called, refusalOf}
 use Rattle.calls.specs.Filing.{readingOf}
-use Rattle.calls.specs.Mixed.{Request, record-call, file-call, ledgerOver, answersOver, FilesIsolated}
+use Rattle.calls.specs.Mixed.{Request, record-call, file-call, storeOver, answersOver, FilesIsolated}
 use Rattle.capi.specs.Exported.{Exported, recordExport, fileExport, shortNumber}
 
 -- one exported call that is lent the ledger: sender, record and answer buffer; or file, answer buffer and the word for its count
@@ -33,17 +33,17 @@ module _ (reporters currencies : List ℕ) where
       let o = exportOf (file-export file a word) l in cond (eqb (o .reply) 0) (take (getD (o .words) 0 0 * answerSize) (o .buffer)) []
 
   -- a list of them, each on the ledger that the last one left
-  abbrev pub ledgerThrough : List Export → List ℕ → List ℕ
-  ledgerThrough [] l = l
-  ledgerThrough (x ∷ xs) l = ledgerThrough xs (exportOf x l .ledger)
+  abbrev pub storeThrough : List Export → List ℕ → List ℕ
+  storeThrough [] l = l
+  storeThrough (x ∷ xs) l = storeThrough xs (exportOf x l .store)
 
   abbrev pub answersThrough : List Export → List ℕ → List ℕ
   answersThrough [] l = []
-  answersThrough (x ∷ xs) l = exportAnswers x l ++ answersThrough xs (exportOf x l .ledger)
+  answersThrough (x ∷ xs) l = exportAnswers x l ++ answersThrough xs (exportOf x l .store)
 
   abbrev pub repliesThrough : List Export → List ℕ → List ℕ
   repliesThrough [] l = []
-  repliesThrough (x ∷ xs) l = exportOf x l .reply ∷ repliesThrough xs (exportOf x l .ledger)
+  repliesThrough (x ∷ xs) l = exportOf x l .reply ∷ repliesThrough xs (exportOf x l .store)
 
   -- the requests that it stands for: none where its buffer has no room for one answer
   abbrev pub exportRequests : Export → List Request
@@ -57,13 +57,13 @@ module _ (reporters currencies : List ℕ) where
   -- what it returns on every sound ledger
   abbrev pub soundNumber : Export → ℕ
   soundNumber (record-export sender «record» a) =
-      let n = refusalOf reporters currencies (called sender «record») true in cond (ltb (length a) answerSize) (shortNumber n) n
-  soundNumber (file-export file a word) = refusalIn (readingOf reporters currencies file (length a) true)
+      let n = refusalOf reporters currencies (called sender «record») 0 in cond (ltb (length a) answerSize) (shortNumber n) n
+  soundNumber (file-export file a word) = refusalIn (readingOf reporters currencies file (length a) 0)
 
   -- The claim: ledger and answers are those of the requests that the calls stand for, and demand 3 holds of these; each call returns what it returns on
   -- every sound ledger, and 4 is never among the replies.
   pub record ExportsIsolated (xs : List Export) (l : List ℕ) : Type 0 where
-    pub sameLedger : ledgerThrough xs l ≡ ledgerOver reporters currencies (requestsOver xs) l
+    pub sameStore : storeThrough xs l ≡ storeOver reporters currencies (requestsOver xs) l
     pub sameAnswers : answersThrough xs l ≡ answersOver reporters currencies (requestsOver xs) l
     pub sameReplies : repliesThrough xs l ≡ map soundNumber xs
     pub neverFour : all (λ n. not (eqb n 4)) (repliesThrough xs l) ≡ true

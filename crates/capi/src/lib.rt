@@ -2,7 +2,7 @@
 // refused call writes nothing.
 ghost use mathlib.Core.List.{[], _∷_};
 ghost use mathlib.Core.Path.{_≡_};
-ghost use Rattle.ledger.specs.Sound.{soundLedger};
+ghost use Rattle.ledger.specs.Sound.{ledgerFlaw};
 ghost use Rattle.calls.specs.Call.{called, refusalOf};
 ghost use Rattle.capi.specs.Exported.{exported, recordExport, fileExport, shortNumber, fieldNumbers, fieldExport};
 use answer::ANSWER_SIZE;
@@ -22,7 +22,7 @@ fn short_call<'a>(
     record: &'a [u8],
 ) -> u64
     ensures { λ r. ⌜ r ≡ shortNumber (refusalOf (now (reporters .entry)) (now (currencies .entry)) (called (now (sender .entry)) (now («record» .entry)))
-        (soundLedger (now (ledger .entry)))) ⌝ }
+        (ledgerFlaw (now (ledger .entry)))) ⌝ }
 {
     let n = calls::refusal(reporters, currencies, ledger, sender, record);
     if n != 0 { wide(n) } else { SHORT_BUFFER }

@@ -1,59 +1,65 @@
--- What follows from isolation for any lawful rules: which calls do not look at the ledger, what a bank's results depend on, which calls commute.
+-- What follows from isolation for any lawful rules: which calls do not look at the store, what a bank's results depend on, which calls commute.
 -- Assumes nothing.
 use Prim.Native.Nat.{ℕ, _≤_, _<_}
 use mathlib.Core.Path.{_≡_, refl, ap, sym, _∙_}
 use mathlib.Core.Bool.{Bool, true, false, cond}
-use mathlib.Core.List.{List, [], _∷_}
+use mathlib.Core.List.{List, [], _∷_, _++_}
+use mathlib.Core.Logic.{_≢_}
 use lib.Dec.{eqb}
 use borrow.Author.Tests.{eqb-true, le-ltb}
-use Rattle.frame.specs.Isolation.{Rules, Lawful, Outcome, soundLedger, compartment, act, single, ledgerAfter, answersFor}
+use Rattle.frame.specs.Isolation.{Rules, Lawful, act, single, replies, storeAfter, answersFor}
 use Rattle.frame.specs.Isolation.{isStep, steps, loneAnswers, loneState}
 use Rattle.frame.proofs.BoolLaws.{and-right}
-use Rattle.frame.proofs.Isolation.{isolation, after-size}
-use Rattle.frame.proofs.PartLaws.{parts-ext}
+use Rattle.frame.proofs.Isolation.{isolation, after-in-order}
 
 module _ (R : Rules) where
-  open Rules R using (Call, Answer, banks, size, refusal, bank)
+  open Rules R using (Call, Store, banks, flaw, refusal, bank)
 
-  -- a call whose record passes for no bank is answered alike on any two sound ledgers
-  pub stranger-blind : (c : Call) (l m : List ℕ) → soundLedger R l ≡ true → soundLedger R m ≡ true → banks ≤ bank c
-      → single R c l .reply ≡ single R c m .reply
+  -- a call whose record passes for no bank is answered alike on any two stores in order
+  pub stranger-blind : (c : Call) (s t : Store) → flaw s ≡ 0 → flaw t ≡ 0 → banks ≤ bank c → single R c s .reply ≡ single R c t .reply
   unfolding single
-  stranger-blind c l m h k none = rw (h, k, le-ltb (bank c) banks none) (same (refusal c true) (eqb (refusal c true) 0))
+  stranger-blind c s t h k none = rw (h, k, le-ltb (bank c) banks none) (same (refusal c 0) (eqb (refusal c 0) 0))
     where
-      same : (n : ℕ) (f : Bool) → act R c l n f false .reply ≡ act R c m n f false .reply
+      same : (n : ℕ) (f : Bool) → act R c s n f false .reply ≡ act R c t n f false .reply
       same n true = refl
       same n false = refl
 
+  -- two lists in a row: what they leave and answer
+  pub after-append : (bs cs : List Call) (s : Store) → storeAfter R (bs ++ cs) s ≡ storeAfter R cs (storeAfter R bs s)
+  after-append [] cs s = refl
+  after-append (b ∷ bs) cs s = after-append bs cs _
+
+  pub replies-append : (bs cs : List Call) (s : Store) → replies R (bs ++ cs) s ≡ replies R bs s ++ replies R cs (storeAfter R bs s)
+  replies-append [] cs s = refl
+  replies-append (b ∷ bs) cs s = rw (replies-append bs cs (single R b s .store))
+
 module _ (R : Rules) (H : Lawful R) where
-  open Rules R using (Call, Answer, banks, size, refusal, bank)
+  open Rules R using (Call, Store, banks, own, flaw, refusal, bank)
 
-  -- a bank's answers and its compartment depend on no other compartment of the ledger
-  module _ (cs : List Call) (l m : List ℕ) (h : soundLedger R l ≡ true) (k : soundLedger R m ≡ true) (r : ℕ) (rh : r < banks)
-      (agree : compartment R r l ≡ compartment R r m) where
-    pub own-answers : answersFor R r cs l ≡ answersFor R r cs m
+  -- a bank's answers and its part depend on no other bank's part
+  module _ (cs : List Call) (s t : Store) (h : flaw s ≡ 0) (k : flaw t ≡ 0) (r : ℕ) (rh : r < banks) (agree : own r s ≡ own r t) where
+    pub own-answers : answersFor R r cs s ≡ answersFor R r cs t
     own-answers =
-        isolation R H cs l h .answers r rh ∙ ap (loneAnswers R (steps R r cs)) agree ∙ sym (isolation R H cs m k .answers r rh)
+        isolation R H cs s h .answers r rh ∙ ap (loneAnswers R (steps R r cs)) agree ∙ sym (isolation R H cs t k .answers r rh)
 
-    pub own-compartment : compartment R r (ledgerAfter R cs l) ≡ compartment R r (ledgerAfter R cs m)
-    own-compartment =
-        isolation R H cs l h .states r rh ∙ ap (loneState R (steps R r cs)) agree ∙ sym (isolation R H cs m k .states r rh)
+    pub own-state : own r (storeAfter R cs s) ≡ own r (storeAfter R cs t)
+    own-state =
+        isolation R H cs s h .states r rh ∙ ap (loneState R (steps R r cs)) agree ∙ sym (isolation R H cs t k .states r rh)
 
-  -- calls of two banks leave the same ledger in either order
-  step-swap : (r : ℕ) (c d : Call) → (bank c ≡ bank d → ⊥) → steps R r (c ∷ d ∷ []) ≡ steps R r (d ∷ c ∷ [])
+  -- calls of two banks leave the same store in either order
+  step-swap : (r : ℕ) (c d : Call) → bank c ≢ bank d → steps R r (c ∷ d ∷ []) ≡ steps R r (d ∷ c ∷ [])
   step-swap r c d differ = go (isStep R r c) (isStep R r d) refl refl
     where
       go : (x y : Bool) → isStep R r c ≡ x → isStep R r d ≡ y
           → cond x (c ∷ cond y (d ∷ []) []) (cond y (d ∷ []) []) ≡ cond y (d ∷ cond x (c ∷ []) []) (cond x (c ∷ []) [])
       go true true p q =
-          absurd (differ (eqb-true _ _ (and-right (eqb (refusal c true) 0) _ p) ∙ sym (eqb-true _ _ (and-right (eqb (refusal d true) 0) _ q))))
+          absurd (differ (eqb-true _ _ (and-right (eqb (refusal c 0) 0) _ p) ∙ sym (eqb-true _ _ (and-right (eqb (refusal d 0) 0) _ q))))
       go true false p q = refl
       go false true p q = refl
       go false false p q = refl
 
-  pub calls-commute : (c d : Call) (l : List ℕ) → soundLedger R l ≡ true → (bank c ≡ bank d → ⊥)
-      → ledgerAfter R (c ∷ d ∷ []) l ≡ ledgerAfter R (d ∷ c ∷ []) l
-  calls-commute c d l h differ =
-      parts-ext size banks (H .size-positive) _ _ (after-size R H (c ∷ d ∷ []) l h) (after-size R H (d ∷ c ∷ []) l h)
-      (λ r rh. isolation R H (c ∷ d ∷ []) l h .states r rh ∙ ap (λ (ss : List Call). loneState R ss (compartment R r l)) (step-swap r c d differ)
-      ∙ sym (isolation R H (d ∷ c ∷ []) l h .states r rh))
+  pub calls-commute : (c d : Call) (s : Store) → flaw s ≡ 0 → bank c ≢ bank d → storeAfter R (c ∷ d ∷ []) s ≡ storeAfter R (d ∷ c ∷ []) s
+  calls-commute c d s h differ =
+      H .store-ext _ _ (after-in-order R H (c ∷ d ∷ []) s h) (after-in-order R H (d ∷ c ∷ []) s h)
+      (λ r rh. isolation R H (c ∷ d ∷ []) s h .states r rh ∙ ap (λ (ss : List Call). loneState R ss (own r s)) (step-swap r c d differ)
+      ∙ sym (isolation R H (d ∷ c ∷ []) s h .states r rh))

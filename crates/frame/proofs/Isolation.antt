@@ -1,6 +1,6 @@
--- Demand 3 for any lawful rules: a theorem for every list of calls and every sound ledger; and the three cases of one call.
+-- Demand 3 for any lawful rules: a theorem for every list of calls and every store in order, one for every other store; and the three cases of one call.
 -- Assumes nothing.
-use Prim.Native.Nat.{ℕ, zero, suc, _+_, _*_, _≤_, _<_}
+use Prim.Native.Nat.{ℕ, zero, suc, _≤_, _<_}
 use native.Mathlib.Nat.{not-suc-le-zero}
 use native.Mathlib.Decide.{ℕ-discrete}
 use native.Mathlib.Omega.{arith}
@@ -9,125 +9,92 @@ use mathlib.Core.Bool.{Bool, true, false, _&&_, cond, false≢true}
 use mathlib.Core.List.{List, [], _∷_, _++_, append-nil, map}
 use mathlib.Core.Logic.{_≢_}
 use lib.Dec.{eqb, ltb}
-use lib.ListN.{length}
 use borrow.Author.Tests.{eqb-true, eqb-false, eq-eqb, ne-eqb, ltb-true, ltb-false, lt-ltb, le-ltb}
-use Rattle.frame.specs.Parts.{part, put}
 use Rattle.frame.specs.Reply.{Reply, refused, accepted, refusalIn}
-use Rattle.frame.specs.Isolation.{Rules, Lawful, Outcome, soundLedger, compartment, act, single, replies, ledgerAfter}
-use Rattle.frame.specs.Isolation.{ownReplies, answersFor, isStep, steps, loneAnswers, loneState, bankAfterBank, Isolated}
-use Rattle.frame.proofs.BoolLaws.{and-left, and-right, and-intro}
-use Rattle.frame.proofs.EveryLaws.{every-at, every-intro}
-use Rattle.frame.proofs.PartLaws.{before, part-put, part-put-other, put-length, parts-ext}
+use Rattle.frame.specs.Isolation.{Rules, Lawful, Outcome, act, single, replies, storeAfter}
+use Rattle.frame.specs.Isolation.{ownReplies, answersFor, isStep, steps, loneAnswers, loneState, bankAfterBank, Isolated, Stopped}
+use Rattle.frame.proofs.BoolLaws.{and-intro}
 
 module _ (R : Rules) (H : Lawful R) where
-  open Rules R using (Call, Answer, banks, size, sound, refusal, bank, stranger, judge, next)
+  open Rules R using (Call, Answer, Store, State, banks, own, keep, flaw, refusal, bank, stranger, judge, next)
 
-  sound-size : (l : List ℕ) → soundLedger R l ≡ true → length l ≡ banks * size
-  unfolding soundLedger
-  sound-size l h = eqb-true _ _ (and-left _ _ h)
+  act-in-order : (c : Call) (s : Store) → flaw s ≡ 0 → (n : ℕ) (f b : Bool) → ltb (bank c) banks ≡ b → flaw (act R c s n f b .store) ≡ 0
+  act-in-order c s h n true true e = H .step-in-order c (bank c) (ltb-true _ _ e) s h
+  act-in-order c s h n true false e = h
+  act-in-order c s h n false b e = h
 
-  sound-part : (l : List ℕ) → soundLedger R l ≡ true → (r : ℕ) → r < banks → sound (compartment R r l) ≡ true
-  unfolding soundLedger
-  sound-part l h = every-at banks _ (and-right (eqb (length l) (banks * size)) _ h)
-
-  fits : (l : List ℕ) → soundLedger R l ≡ true → (r : ℕ) → r < banks → r * size + size ≤ length l
-  fits l h r rh = rw (sound-size l h) (before size rh)
-
-  put-sound : (l : List ℕ) → soundLedger R l ≡ true → (r : ℕ) → r < banks → (s : List ℕ) → sound s ≡ true → soundLedger R (put size r s l) ≡ true
-  unfolding soundLedger
-  put-sound l h r rh s sh =
-      let long : length s ≡ size = H .sound-length s sh in
-      and-intro _ _ (eq-eqb _ _ (put-length size r s l (fits l h r rh) long ∙ sound-size l h))
-      (every-intro banks _ (λ q qh. go q qh long (ℕ-discrete q r)))
-    where
-      go : (q : ℕ) → q < banks → length s ≡ size → Dec (q ≡ r) → sound (part size q (put size r s l)) ≡ true
-      go q qh long (yes e) = rw (e, part-put size r s l (fits l h r rh) long) sh
-      go q qh long (no ne) = rw (part-put-other size r s l (fits l h r rh) long q ne (fits l h q qh)) (sound-part l h q qh)
-
-  act-sound : (c : Call) (l : List ℕ) → soundLedger R l ≡ true → (n : ℕ) (f b : Bool) → ltb (bank c) banks ≡ b → soundLedger R (act R c l n f b .ledger) ≡ true
-  act-sound c l h n true true e =
-      let bh : bank c < banks = ltb-true _ _ e in put-sound l h (bank c) bh _ (H .next-sound c _ (sound-part l h (bank c) bh))
-  act-sound c l h n true false e = h
-  act-sound c l h n false b e = h
-
-  single-sound : (c : Call) (l : List ℕ) → soundLedger R l ≡ true → soundLedger R (single R c l .ledger) ≡ true
+  single-in-order : (c : Call) (s : Store) → flaw s ≡ 0 → flaw (single R c s .store) ≡ 0
   unfolding single
-  single-sound c l h = let n : ℕ = refusal c (soundLedger R l) in act-sound c l h n (eqb n 0) _ refl
+  single-in-order c s h = let n : ℕ = refusal c (flaw s) in act-in-order c s h n (eqb n 0) _ refl
 
-  after-sound : (cs : List Call) (l : List ℕ) → soundLedger R l ≡ true → soundLedger R (ledgerAfter R cs l) ≡ true
-  after-sound [] l h = h
-  after-sound (c ∷ cs) l h = after-sound cs _ (single-sound c l h)
+  pub after-in-order : (cs : List Call) (s : Store) → flaw s ≡ 0 → flaw (storeAfter R cs s) ≡ 0
+  after-in-order [] s h = h
+  after-in-order (c ∷ cs) s h = after-in-order cs _ (single-in-order c s h)
 
   module _ (r : ℕ) (rh : r < banks) where
-    -- one call as bank r sees it: its answer, and its compartment
-    act-answer : (c : Call) (cs : List Call) (ws : List (Reply Answer)) (l : List ℕ) (n : ℕ) (f b q : Bool) → ltb (bank c) banks ≡ b → eqb (bank c) r ≡ q
-        → ownReplies R r (c ∷ cs) (act R c l n f b .reply ∷ ws)
-        ≡ cond (f && q) (judge c (compartment R r l) ∷ ownReplies R r cs ws) (ownReplies R r cs ws)
-    act-answer c cs ws l n true true true e d = rw (d, eqb-true (bank c) r d)
-    act-answer c cs ws l n true true false e d = rw d
-    act-answer c cs ws l n true false true e d = absurd (omega (arith, ltb-false (bank c) banks e, eqb-true (bank c) r d))
-    act-answer c cs ws l n true false false e d = rw d
-    act-answer c cs ws l n false b q e d = refl
+    -- one call as bank r sees it: its answer, and its part
+    act-answer : (c : Call) (cs : List Call) (ws : List (Reply Answer)) (s : Store) (n : ℕ) (f b q : Bool) → ltb (bank c) banks ≡ b → eqb (bank c) r ≡ q
+        → ownReplies R r (c ∷ cs) (act R c s n f b .reply ∷ ws)
+        ≡ cond (f && q) (judge c (own r s) ∷ ownReplies R r cs ws) (ownReplies R r cs ws)
+    act-answer c cs ws s n true true true e d = rw (d, eqb-true (bank c) r d)
+    act-answer c cs ws s n true true false e d = rw d
+    act-answer c cs ws s n true false true e d = absurd (omega (arith, ltb-false (bank c) banks e, eqb-true (bank c) r d))
+    act-answer c cs ws s n true false false e d = rw d
+    act-answer c cs ws s n false b q e d = refl
 
-    act-state : (c : Call) (l : List ℕ) → soundLedger R l ≡ true → (n : ℕ) (f b q : Bool) → ltb (bank c) banks ≡ b → eqb (bank c) r ≡ q
-        → compartment R r (act R c l n f b .ledger) ≡ cond (f && q) (next c (compartment R r l)) (compartment R r l)
-    act-state c l h n true true true e d =
-        rw (eqb-true (bank c) r d)
-        (part-put size r _ l (fits l h r rh) (H .sound-length _ (H .next-sound c _ (sound-part l h r rh))))
-    act-state c l h n true true false e d =
-        let bh : bank c < banks = ltb-true _ _ e in
-        part-put-other size (bank c) _ l (fits l h (bank c) bh) (H .sound-length _ (H .next-sound c _ (sound-part l h (bank c) bh))) r
-        (λ q. eqb-false _ _ d (sym q)) (fits l h r rh)
-    act-state c l h n true false true e d = absurd (omega (arith, ltb-false (bank c) banks e, eqb-true (bank c) r d))
-    act-state c l h n true false false e d = refl
-    act-state c l h n false b q e d = refl
+    act-state : (c : Call) (s : Store) → flaw s ≡ 0 → (n : ℕ) (f b q : Bool) → ltb (bank c) banks ≡ b → eqb (bank c) r ≡ q
+        → own r (act R c s n f b .store) ≡ cond (f && q) (next c (own r s)) (own r s)
+    act-state c s h n true true true e d = rw (eqb-true (bank c) r d) (H .step-own c r rh s h)
+    act-state c s h n true true false e d = H .step-other c (bank c) (ltb-true _ _ e) s h r rh (λ q. eqb-false _ _ d (sym q))
+    act-state c s h n true false true e d = absurd (omega (arith, ltb-false (bank c) banks e, eqb-true (bank c) r d))
+    act-state c s h n true false false e d = refl
+    act-state c s h n false b q e d = refl
 
     -- the lone copy's turn, by whether the call is a step
-    answers-turn : (x : Bool) (c : Call) (ss : List Call) (s t : List ℕ) (vs : List Answer) → vs ≡ loneAnswers R ss t → t ≡ cond x (next c s) s
+    answers-turn : (x : Bool) (c : Call) (ss : List Call) (s t : State) (vs : List Answer) → vs ≡ loneAnswers R ss t → t ≡ cond x (next c s) s
         → cond x (judge c s ∷ vs) vs ≡ loneAnswers R (cond x (c ∷ ss) ss) s
     answers-turn true c ss s t vs p q = rw (p, q)
     answers-turn false c ss s t vs p q = rw (p, q)
 
-    state-turn : (x : Bool) (c : Call) (ss : List Call) (s t : List ℕ) → t ≡ cond x (next c s) s → loneState R ss t ≡ loneState R (cond x (c ∷ ss) ss) s
+    state-turn : (x : Bool) (c : Call) (ss : List Call) (s t : State) → t ≡ cond x (next c s) s → loneState R ss t ≡ loneState R (cond x (c ∷ ss) ss) s
     state-turn true c ss s t q = rw q
     state-turn false c ss s t q = rw q
 
-    single-state : (c : Call) (l : List ℕ) → soundLedger R l ≡ true
-        → compartment R r (single R c l .ledger) ≡ cond (isStep R r c) (next c (compartment R r l)) (compartment R r l)
+    single-state : (c : Call) (s : Store) → flaw s ≡ 0 → own r (single R c s .store) ≡ cond (isStep R r c) (next c (own r s)) (own r s)
     unfolding single
-    single-state c l h =
-        let n : ℕ = refusal c (soundLedger R l) in
-        act-state c l h n (eqb n 0) _ _ refl refl
-        ∙ ap (λ (b : Bool). cond (eqb (refusal c b) 0 && eqb (bank c) r) (next c (compartment R r l)) (compartment R r l)) h
+    single-state c s h =
+        let n : ℕ = refusal c (flaw s) in
+        act-state c s h n (eqb n 0) _ _ refl refl
+        ∙ ap (λ (k : ℕ). cond (eqb (refusal c k) 0 && eqb (bank c) r) (next c (own r s)) (own r s)) h
 
-    lone-answers : (cs : List Call) (l : List ℕ) → soundLedger R l ≡ true → answersFor R r cs l ≡ loneAnswers R (steps R r cs) (compartment R r l)
+    lone-answers : (cs : List Call) (s : Store) → flaw s ≡ 0 → answersFor R r cs s ≡ loneAnswers R (steps R r cs) (own r s)
     unfolding single
-    lone-answers [] l h = refl
-    lone-answers (c ∷ cs) l h =
-        let vs : List Answer = answersFor R r cs (single R c l .ledger) in
-        let n : ℕ = refusal c (soundLedger R l) in
-        act-answer c cs _ l n (eqb n 0) _ _ refl refl
-        ∙ ap (λ (b : Bool). cond (eqb (refusal c b) 0 && eqb (bank c) r) (judge c (compartment R r l) ∷ vs) vs) h
-        ∙ answers-turn (isStep R r c) c (steps R r cs) (compartment R r l) _ vs (lone-answers cs _ (single-sound c l h)) (single-state c l h)
+    lone-answers [] s h = refl
+    lone-answers (c ∷ cs) s h =
+        let vs : List Answer = answersFor R r cs (single R c s .store) in
+        let n : ℕ = refusal c (flaw s) in
+        act-answer c cs _ s n (eqb n 0) _ _ refl refl
+        ∙ ap (λ (k : ℕ). cond (eqb (refusal c k) 0 && eqb (bank c) r) (judge c (own r s) ∷ vs) vs) h
+        ∙ answers-turn (isStep R r c) c (steps R r cs) (own r s) _ vs (lone-answers cs _ (single-in-order c s h)) (single-state c s h)
 
-    lone-state : (cs : List Call) (l : List ℕ) → soundLedger R l ≡ true → compartment R r (ledgerAfter R cs l) ≡ loneState R (steps R r cs) (compartment R r l)
-    lone-state [] l h = refl
-    lone-state (c ∷ cs) l h =
-        lone-state cs _ (single-sound c l h) ∙ state-turn (isStep R r c) c (steps R r cs) (compartment R r l) _ (single-state c l h)
+    lone-state : (cs : List Call) (s : Store) → flaw s ≡ 0 → own r (storeAfter R cs s) ≡ loneState R (steps R r cs) (own r s)
+    lone-state [] s h = refl
+    lone-state (c ∷ cs) s h =
+        lone-state cs _ (single-in-order c s h) ∙ state-turn (isStep R r c) c (steps R r cs) (own r s) _ (single-state c s h)
 
-  -- a call on a sound ledger is refused as the flag says, and answered otherwise
-  act-refused : (c : Call) (l : List ℕ) (n : ℕ) (f b : Bool) → eqb n 0 ≡ f → refusalIn (act R c l n f b .reply) ≡ n
-  act-refused c l n true true e = sym (eqb-true n 0 e)
-  act-refused c l n true false e = sym (eqb-true n 0 e)
-  act-refused c l n false b e = refl
+  -- a call is refused as its number says, and answered otherwise
+  act-refused : (c : Call) (s : Store) (n : ℕ) (f b : Bool) → eqb n 0 ≡ f → refusalIn (act R c s n f b .reply) ≡ n
+  act-refused c s n true true e = sym (eqb-true n 0 e)
+  act-refused c s n true false e = sym (eqb-true n 0 e)
+  act-refused c s n false b e = refl
 
-  single-refusal : (c : Call) (l : List ℕ) → soundLedger R l ≡ true → refusalIn (single R c l .reply) ≡ refusal c true
+  single-refusal : (c : Call) (s : Store) → flaw s ≡ 0 → refusalIn (single R c s .reply) ≡ refusal c 0
   unfolding single
-  single-refusal c l h = act-refused c l (refusal c (soundLedger R l)) _ _ refl ∙ ap (refusal c) h
+  single-refusal c s h = act-refused c s (refusal c (flaw s)) _ _ refl ∙ ap (refusal c) h
 
-  all-refusals : (cs : List Call) (l : List ℕ) → soundLedger R l ≡ true → map refusalIn (replies R cs l) ≡ map (λ c. refusal c true) cs
-  all-refusals [] l h = refl
-  all-refusals (c ∷ cs) l h = rw (single-refusal c l h, all-refusals cs _ (single-sound c l h))
+  all-refusals : (cs : List Call) (s : Store) → flaw s ≡ 0 → map refusalIn (replies R cs s) ≡ map (λ c. refusal c 0) cs
+  all-refusals [] s h = refl
+  all-refusals (c ∷ cs) s h = rw (single-refusal c s h, all-refusals cs _ (single-in-order c s h))
 
   -- the steps of bank after bank
   steps-append : (r : ℕ) (vs bs : List Call) → steps R r (vs ++ bs) ≡ steps R r vs ++ steps R r bs
@@ -160,7 +127,7 @@ module _ (R : Rules) (H : Lawful R) where
 
       go : (x : Bool) → isStep R q c ≡ x → steps R r (steps R q cs) ≡ []
           → steps R r (cond x (c ∷ steps R q cs) (steps R q cs)) ≡ []
-      go true e p = rw (differs (eqb (refusal c true) 0) _ _ refl refl e) p
+      go true e p = rw (differs (eqb (refusal c 0) 0) _ _ refl refl e) p
       go false e p = p
 
   steps-none : (n r : ℕ) → n ≤ r → (cs : List Call) → steps R r (bankAfterBank R n cs) ≡ []
@@ -180,54 +147,70 @@ module _ (R : Rules) (H : Lawful R) where
       go (no ne) f = rw (f (omega arith), steps-other r n ne cs) (append-nil _)
 
   -- a call that is a step for no bank
-  act-idle : (c : Call) (l : List ℕ) (n : ℕ) (f b : Bool) → eqb (refusal c true) 0 ≡ f → ltb (bank c) banks ≡ b
-      → ((r : ℕ) → r < banks → isStep R r c ≡ false) → act R c l n f b .ledger ≡ l
-  act-idle c l n true true d e none =
+  act-idle : (c : Call) (s : Store) (n : ℕ) (f b : Bool) → eqb (refusal c 0) 0 ≡ f → ltb (bank c) banks ≡ b
+      → ((r : ℕ) → r < banks → isStep R r c ≡ false) → act R c s n f b .store ≡ s
+  act-idle c s n true true d e none =
       absurd (false≢true (sym (none (bank c) (ltb-true _ _ e)) ∙ and-intro _ _ d (eq-eqb (bank c) _ refl)))
-  act-idle c l n true false d e none = refl
-  act-idle c l n false b d e none = refl
+  act-idle c s n true false d e none = refl
+  act-idle c s n false b d e none = refl
 
-  after-last : (cs : List Call) (c : Call) (l : List ℕ) → ledgerAfter R (cs ++ (c ∷ [])) l ≡ single R c (ledgerAfter R cs l) .ledger
-  after-last [] c l = refl
-  after-last (d ∷ cs) c l = after-last cs c _
+  after-last : (cs : List Call) (c : Call) (s : Store) → storeAfter R (cs ++ (c ∷ [])) s ≡ single R c (storeAfter R cs s) .store
+  after-last [] c s = refl
+  after-last (d ∷ cs) c s = after-last cs c _
 
-  single-idle : (c : Call) (l : List ℕ) → soundLedger R l ≡ true → ((r : ℕ) → r < banks → isStep R r c ≡ false) → single R c l .ledger ≡ l
+  single-idle : (c : Call) (s : Store) → flaw s ≡ 0 → ((r : ℕ) → r < banks → isStep R r c ≡ false) → single R c s .store ≡ s
   unfolding single
-  single-idle c l h none = let n : ℕ = refusal c (soundLedger R l) in act-idle c l n (eqb n 0) _ (ap (λ (b : Bool). eqb (refusal c b) 0) (sym h)) refl none
+  single-idle c s h none = let n : ℕ = refusal c (flaw s) in act-idle c s n (eqb n 0) _ (ap (λ (k : ℕ). eqb (refusal c k) 0) (sym h)) refl none
 
-  pub after-size : (cs : List Call) (l : List ℕ) → soundLedger R l ≡ true → length (ledgerAfter R cs l) ≡ banks * size
-  after-size cs l h = sound-size _ (after-sound cs l h)
-
-  pub isolation : (cs : List Call) (l : List ℕ) → soundLedger R l ≡ true → Isolated R cs l
-  isolation cs l h =
+  pub isolation : (cs : List Call) (s : Store) → flaw s ≡ 0 → Isolated R cs s
+  isolation cs s h =
       let after : List Call = bankAfterBank R banks cs in
       record {
-        answers = λ r rh. lone-answers r rh cs l h;
-        states = λ r rh. lone-state r rh cs l h;
-        staysSound = after-sound cs l h;
-        refusals = all-refusals cs l h;
-        idle = λ c none. after-last cs c l ∙ single-idle c _ (after-sound cs l h) none;
-        sameLedger =
-            parts-ext size banks (H .size-positive) _ _ (after-size after l h) (after-size cs l h)
-            (λ r rh. lone-state r rh after l h
-            ∙ ap (λ (ss : List Call). loneState R ss (compartment R r l)) (steps-banks banks r rh cs) ∙ sym (lone-state r rh cs l h));
+        answers = λ r rh. lone-answers r rh cs s h;
+        states = λ r rh. lone-state r rh cs s h;
+        staysInOrder = after-in-order cs s h;
+        refusals = all-refusals cs s h;
+        idle = λ c none. after-last cs c s ∙ single-idle c _ (after-in-order cs s h) none;
+        sameStore =
+            H .store-ext _ _ (after-in-order after s h) (after-in-order cs s h)
+            (λ r rh. lone-state r rh after s h
+            ∙ ap (λ (ss : List Call). loneState R ss (own r s)) (steps-banks banks r rh cs) ∙ sym (lone-state r rh cs s h));
         sameAnswers = λ r rh.
-            lone-answers r rh after l h
-            ∙ ap (λ (ss : List Call). loneAnswers R ss (compartment R r l)) (steps-banks banks r rh cs) ∙ sym (lone-answers r rh cs l h);
+            lone-answers r rh after s h
+            ∙ ap (λ (ss : List Call). loneAnswers R ss (own r s)) (steps-banks banks r rh cs) ∙ sym (lone-answers r rh cs s h);
       }
 
 -- The three cases of one call: refused, a stranger's, and a step. A contract's proof cites one at each return.
-module _ (R : Rules) (c : R .Call) (l : List ℕ) where
-  refused-as : {n : ℕ} → R .refusal c (soundLedger R l) ≡ n → single R c l ≡ act R c l n (eqb n 0) (ltb (R .bank c) (R .banks))
+module _ (R : Rules) (c : R .Call) (s : R .Store) where
+  refused-as : {n : ℕ} → R .refusal c (R .flaw s) ≡ n → single R c s ≡ act R c s n (eqb n 0) (ltb (R .bank c) (R .banks))
   unfolding single
   refused-as e = rw e
 
-  pub single-refused : (n : ℕ) → R .refusal c (soundLedger R l) ≡ n → (n ≡ 0 → ⊥) → single R c l ≡ record { reply = refused n; ledger = l }
+  pub single-refused : (n : ℕ) → R .refusal c (R .flaw s) ≡ n → n ≢ 0 → single R c s ≡ record { reply = refused n; store = s }
   single-refused n e ne = refused-as e ∙ rw (ne-eqb n 0 ne)
 
-  pub single-stranger : R .refusal c (soundLedger R l) ≡ 0 → R .banks ≤ R .bank c → single R c l ≡ record { reply = accepted (R .stranger c); ledger = l }
+  pub single-stranger : R .refusal c (R .flaw s) ≡ 0 → R .banks ≤ R .bank c → single R c s ≡ record { reply = accepted (R .stranger c); store = s }
   single-stranger e h = refused-as e ∙ rw (le-ltb _ _ h)
 
-  pub single-step : (r : ℕ) → R .refusal c (soundLedger R l) ≡ 0 → R .bank c ≡ r → r < R .banks
-      → single R c l ≡ record { reply = accepted (R .judge c (compartment R r l)); ledger = put (R .size) r (R .next c (compartment R r l)) l }
+  pub single-step : (r : ℕ) → R .refusal c (R .flaw s) ≡ 0 → R .bank c ≡ r → r < R .banks
+      → single R c s ≡ record { reply = accepted (R .judge c (R .own r s)); store = R .keep r (R .next c (R .own r s)) s }
   single-step r e b h = let inside : R .bank c < R .banks = rw b h in refused-as e ∙ rw (lt-ltb _ _ inside, b)
+
+-- A store that is not in order stops every call.
+module _ (R : Rules) (H : Lawful R) (s : R .Store) (ne : R .flaw s ≢ 0) where
+  refuses : (c : R .Call) → R .refusal c (R .flaw s) ≢ 0
+  refuses c e = ne (H .flaw-refuses c (R .flaw s) e)
+
+  stopped-call : (c : R .Call) → single R c s ≡ record { reply = refused (R .refusal c (R .flaw s)); store = s }
+  stopped-call c = single-refused R c s _ refl (refuses c)
+
+  stopped-replies : (cs : List (R .Call)) → replies R cs s ≡ map (λ c. refused (R .refusal c (R .flaw s))) cs
+  stopped-replies [] = refl
+  stopped-replies (c ∷ cs) = rw (stopped-call c, stopped-replies cs)
+
+  stopped-store : (cs : List (R .Call)) → storeAfter R cs s ≡ s
+  stopped-store [] = refl
+  stopped-store (c ∷ cs) = rw (stopped-call c) (stopped-store cs)
+
+  pub stopped : (cs : List (R .Call)) → Stopped R cs s
+  stopped cs = record { allRefused = stopped-replies cs; neverZero = refuses; sameStore = stopped-store cs }

@@ -1,66 +1,66 @@
 -- Demand 3 of document 01 for any rules of judging and booking: calls, the lone copy, bank after bank, and the claim about a list of calls.
 -- Assumes nothing.
-use Prim.Native.Nat.{ℕ, zero, suc, _*_, _<_}
+use Prim.Native.Nat.{ℕ, zero, suc, _<_}
 use mathlib.Core.Path.{_≡_}
 use mathlib.Core.Bool.{Bool, true, false, _&&_, cond}
 use mathlib.Core.List.{List, [], _∷_, _++_, map}
+use mathlib.Core.Logic.{_≢_}
 use lib.Dec.{eqb, ltb}
-use lib.ListN.{length}
-use Rattle.frame.specs.Parts.{part, put}
-use Rattle.frame.specs.Every.{every}
 use Rattle.frame.specs.Reply.{Reply, refused, accepted, refusalIn}
 
--- The rules that a list of calls is run under, the lent tables being fixed. A call is its arguments but for the ledger.
+-- The rules that a list of calls is run under, the lent tables being fixed. A call is its arguments but for the store: what the calls are lent for
+-- writing, and pass on. In document 01 that is the ledger, and a bank's part of it is its compartment.
 pub record Rules : Type 1 where
   pub Call : Type 0
   pub Answer : Type 0
-  pub banks : ℕ  -- compartments of a ledger
-  pub size : ℕ  -- bytes of a compartment
-  pub sound : List ℕ → Bool  -- of a compartment
-  pub refusal : Call → Bool → ℕ  -- the number by which the call is refused, 0 for none, where the flag says that the ledger is sound
+  pub Store : Type 0
+  pub State : Type 0  -- one bank's part of a store, which is all that its lone copy has
+  pub banks : ℕ
+  pub own : ℕ → Store → State  -- bank r's part
+  pub keep : ℕ → State → Store → Store  -- the store with bank r's part replaced
+  pub flaw : Store → ℕ  -- the number by which the store itself refuses a call; 0 where it is in order
+  pub refusal : Call → ℕ → ℕ  -- the number by which the call is refused, 0 for none, where the store's own number is given
   pub bank : Call → ℕ  -- the bank for which the record passes the sender check; for none, a number that is no bank's
   pub stranger : Call → Answer  -- the answer to a record that passes for no bank
-  pub judge : Call → List ℕ → Answer  -- the answer to a record that passes, on its bank's compartment as it then stands
-  pub next : Call → List ℕ → List ℕ  -- that compartment afterwards
+  pub judge : Call → State → Answer  -- the answer to a record that passes, on its bank's part as it then stands
+  pub next : Call → State → State  -- that part afterwards
 
--- What the theorem asks of the rules: a sound compartment has its size, and a step keeps it sound.
+-- What the theorems ask of the rules: a store that is not in order refuses every call; a step leaves the store in order, its bank's part as it made it, and
+-- every other part as it was; and a store in order is no more than its banks' parts.
 pub record Lawful (R : Rules) : Type 0 where
-  pub size-positive : 0 < R .size
-  pub sound-length : (s : List ℕ) → R .sound s ≡ true → length s ≡ R .size
-  pub next-sound : (c : R .Call) (s : List ℕ) → R .sound s ≡ true → R .sound (R .next c s) ≡ true
+  pub flaw-refuses : (c : R .Call) (n : ℕ) → R .refusal c n ≡ 0 → n ≡ 0
+  pub step-in-order : (c : R .Call) (r : ℕ) → r < R .banks → (s : R .Store) → R .flaw s ≡ 0 → R .flaw (R .keep r (R .next c (R .own r s)) s) ≡ 0
+  pub step-own : (c : R .Call) (r : ℕ) → r < R .banks → (s : R .Store) → R .flaw s ≡ 0
+      → R .own r (R .keep r (R .next c (R .own r s)) s) ≡ R .next c (R .own r s)
+  pub step-other : (c : R .Call) (r : ℕ) → r < R .banks → (s : R .Store) → R .flaw s ≡ 0 → (q : ℕ) → q < R .banks → q ≢ r
+      → R .own q (R .keep r (R .next c (R .own r s)) s) ≡ R .own q s
+  pub store-ext : (s t : R .Store) → R .flaw s ≡ 0 → R .flaw t ≡ 0 → ((r : ℕ) → r < R .banks → R .own r s ≡ R .own r t) → s ≡ t
 
--- what a call returns, and the ledger that it leaves
-pub record Outcome (A : Type 0) : Type 0 where
+-- what a call returns, and the store that it leaves
+pub record Outcome (A S : Type 0) : Type 0 where
   pub reply : Reply A
-  pub ledger : List ℕ
+  pub store : S
 
 module _ (R : Rules) where
-  open Rules R using (Call, Answer, banks, size, sound, refusal, bank, stranger, judge, next)
+  open Rules R using (Call, Answer, Store, State, banks, own, keep, flaw, refusal, bank, stranger, judge, next)
 
-  abbrev pub compartment : ℕ → List ℕ → List ℕ
-  compartment r l = part size r l
+  -- One call. A bank's part is opened only for a record that passes the sender check, and it is that bank's.
+  abbrev pub act : Call → Store → ℕ → Bool → Bool → Outcome Answer Store
+  act c s n true true = record { reply = accepted (judge c (own (bank c) s)); store = keep (bank c) (next c (own (bank c) s)) s }
+  act c s n true false = record { reply = accepted (stranger c); store = s }
+  act c s n false b = record { reply = refused n; store = s }
 
-  -- "sound ledger": of the right length, and sound in every compartment
-  unfoldable pub soundLedger : List ℕ → Bool
-  soundLedger l = eqb (length l) (banks * size) && every banks (λ r. sound (compartment r l))
+  unfoldable pub single : Call → Store → Outcome Answer Store
+  single c s = act c s (refusal c (flaw s)) (eqb (refusal c (flaw s)) 0) (ltb (bank c) banks)
 
-  -- One call. A compartment is opened only for a record that passes the sender check, and it is that bank's.
-  abbrev pub act : Call → List ℕ → ℕ → Bool → Bool → Outcome Answer
-  act c l n true true = record { reply = accepted (judge c (compartment (bank c) l)); ledger = put size (bank c) (next c (compartment (bank c) l)) l }
-  act c l n true false = record { reply = accepted (stranger c); ledger = l }
-  act c l n false b = record { reply = refused n; ledger = l }
+  -- A list of calls, each on the store that the last one left.
+  abbrev pub replies : List Call → Store → List (Reply Answer)
+  replies [] s = []
+  replies (c ∷ cs) s = single c s .reply ∷ replies cs (single c s .store)
 
-  unfoldable pub single : Call → List ℕ → Outcome Answer
-  single c l = act c l (refusal c (soundLedger l)) (eqb (refusal c (soundLedger l)) 0) (ltb (bank c) banks)
-
-  -- A list of calls, each on the ledger that the last one left.
-  abbrev pub replies : List Call → List ℕ → List (Reply Answer)
-  replies [] l = []
-  replies (c ∷ cs) l = single c l .reply ∷ replies cs (single c l .ledger)
-
-  abbrev pub ledgerAfter : List Call → List ℕ → List ℕ
-  ledgerAfter [] l = l
-  ledgerAfter (c ∷ cs) l = ledgerAfter cs (single c l .ledger)
+  abbrev pub storeAfter : List Call → Store → Store
+  storeAfter [] s = s
+  storeAfter (c ∷ cs) s = storeAfter cs (single c s .store)
 
   -- Bank r's answers: those to the records that pass the sender check for r, in calls that are not refused.
   abbrev pub ownReplies : ℕ → List Call → List (Reply Answer) → List Answer
@@ -69,23 +69,23 @@ module _ (R : Rules) where
   ownReplies r (c ∷ cs) (refused n ∷ ws) = ownReplies r cs ws
   ownReplies r (c ∷ cs) (accepted a ∷ ws) = cond (eqb (bank c) r) (a ∷ ownReplies r cs ws) (ownReplies r cs ws)
 
-  abbrev pub answersFor : ℕ → List Call → List ℕ → List Answer
-  answersFor r cs l = ownReplies r cs (replies cs l)
+  abbrev pub answersFor : ℕ → List Call → Store → List Answer
+  answersFor r cs s = ownReplies r cs (replies cs s)
 
-  -- "Step": a call that the lone copy of bank r takes. It is not refused, the ledger being sound, and its record passes for r.
+  -- "Step": a call that the lone copy of bank r takes. It is not refused, the store being in order, and its record passes for r.
   abbrev pub isStep : ℕ → Call → Bool
-  isStep r c = eqb (refusal c true) 0 && eqb (bank c) r
+  isStep r c = eqb (refusal c 0) 0 && eqb (bank c) r
 
   abbrev pub steps : ℕ → List Call → List Call
   steps r [] = []
   steps r (c ∷ cs) = cond (isStep r c) (c ∷ steps r cs) (steps r cs)
 
   -- "The lone copy": what its steps answer and leave, from a state of its own.
-  abbrev pub loneAnswers : List Call → List ℕ → List Answer
+  abbrev pub loneAnswers : List Call → State → List Answer
   loneAnswers [] s = []
   loneAnswers (c ∷ cs) s = judge c s ∷ loneAnswers cs (next c s)
 
-  abbrev pub loneState : List Call → List ℕ → List ℕ
+  abbrev pub loneState : List Call → State → State
   loneState [] s = s
   loneState (c ∷ cs) s = loneState cs (next c s)
 
@@ -94,20 +94,26 @@ module _ (R : Rules) where
   bankAfterBank zero cs = []
   bankAfterBank (suc n) cs = bankAfterBank n cs ++ steps n cs
 
-  -- The claim, of a list of calls and the ledger that it starts on. Each field stands under the words of document 01, "The lone copy of demand 3".
-  pub record Isolated (cs : List Call) (l : List ℕ) : Type 0 where
+  -- The claim, of a list of calls and the store that it starts on. Each field stands under the words of document 01, "The lone copy of demand 3".
+  pub record Isolated (cs : List Call) (s : Store) : Type 0 where
     -- "Compared are all bytes: its answers with those of the same calls, in order, .."
-    pub answers : (r : ℕ) → r < banks → answersFor r cs l ≡ loneAnswers (steps r cs) (compartment r l)
+    pub answers : (r : ℕ) → r < banks → answersFor r cs s ≡ loneAnswers (steps r cs) (own r s)
     -- ".. and its last state with compartment r after the list."
-    pub states : (r : ℕ) → r < banks → compartment r (ledgerAfter cs l) ≡ loneState (steps r cs) (compartment r l)
+    pub states : (r : ℕ) → r < banks → own r (storeAfter cs s) ≡ loneState (steps r cs) (own r s)
     -- ".. the ledger staying sound .."
-    pub staysSound : soundLedger (ledgerAfter cs l) ≡ true
-    -- ".. 4 never applies ..": each call is refused just as on a sound ledger
-    pub refusals : map refusalIn (replies cs l) ≡ map (λ c. refusal c true) cs
-    -- "A refused call (..) and a record that doesn't pass the sender check for r are no step.": one call more that is a step for no bank leaves the ledger
-    pub idle : (c : Call) → ((r : ℕ) → r < banks → isStep r c ≡ false) → ledgerAfter (cs ++ (c ∷ [])) l ≡ ledgerAfter cs l
+    pub staysInOrder : flaw (storeAfter cs s) ≡ 0
+    -- ".. 4 never applies ..": each call is refused just as on a store in order
+    pub refusals : map refusalIn (replies cs s) ≡ map (λ c. refusal c 0) cs
+    -- "A refused call (..) and a record that doesn't pass the sender check for r are no step.": one call more that is a step for no bank leaves the store
+    pub idle : (c : Call) → ((r : ℕ) → r < banks → isStep r c ≡ false) → storeAfter (cs ++ (c ∷ [])) s ≡ storeAfter cs s
     -- "Bank after bank, from the same starting ledger: first the calls that are steps for bank 0, in list order, then those for bank 1, up to 15; the
-    -- others are left out.": the same last ledger
-    pub sameLedger : ledgerAfter (bankAfterBank banks cs) l ≡ ledgerAfter cs l
+    -- others are left out.": the same last store
+    pub sameStore : storeAfter (bankAfterBank banks cs) s ≡ storeAfter cs s
     -- and each bank's answers are the same
-    pub sameAnswers : (r : ℕ) → r < banks → answersFor r (bankAfterBank banks cs) l ≡ answersFor r cs l
+    pub sameAnswers : (r : ℕ) → r < banks → answersFor r (bankAfterBank banks cs) s ≡ answersFor r cs s
+
+  -- The claim for a store that is not in order: every call of the list is refused, by a number that is not 0, and the store stays as it is.
+  pub record Stopped (cs : List Call) (s : Store) : Type 0 where
+    pub allRefused : replies cs s ≡ map (λ c. refused (refusal c (flaw s))) cs
+    pub neverZero : (c : Call) → refusal c (flaw s) ≢ 0
+    pub sameStore : storeAfter cs s ≡ s

@@ -1,9 +1,10 @@
 use Prim.Native.Nat.{_<_}
 use native.Mathlib.Omega.{arith}
 use mathlib.Core.Path.{_≡_, sym, _∙_}
-use Rattle.ledger.specs.Sound.{bankCount, soundLedger}
+use Rattle.ledger.specs.Sound.{bankCount, ledgerFlaw}
 use Rattle.calls.specs.Call.{called, checkedOf}
-use Rattle.calls.proofs.CallLaws.{Accepted, accepted, record-short, ledger-size, checked-same, passed-bank, call-stranger, call-step}
+use Rattle.ledger.proofs.LedgerLaws.{flawless, ledger-size}
+use Rattle.calls.proofs.CallLaws.{Accepted, accepted, record-short, checked-same, passed-bank, call-stranger, call-step}
 use borrow.Author.Needs.{needs}
 use Rattle.calls.proofs.admitted.Statement.{statement}
 use Rattle.calls.proofs.admitted.Tie as tie
@@ -21,7 +22,7 @@ checked c =
     (c .before .part2 .ensures .bytes) (c .check .ensures)
 
 ok : (c : tie.After-check) → let a = start c .args in
-    Accepted (a .reporters .now) (a .currencies .now) (called (a .sender .now) (a .«record» .now)) (soundLedger (a .ledger .now))
+    Accepted (a .reporters .now) (a .currencies .now) (called (a .sender .now) (a .«record» .now)) (ledgerFlaw (a .ledger .now))
 ok c = accepted _ _ _ _ (start c .pre)
 
 enum-known-checked : tie.Need-enum-known-checked
@@ -57,7 +58,7 @@ part-step-start : tie.Need-part-step-start
 part-step-start c = search needs
 
 part-step-end : tie.Need-part-step-end
-part-step-end c = let h = bank c in omega (arith, ledger-size _ (ok (c .before .before .before) .kept))
+part-step-end c = let h = bank c in omega (arith, ledger-size _ (flawless _ (ok (c .before .before .before) .kept)))
 
 step-requires : tie.Need-step-requires
 step-requires c κs =
@@ -74,8 +75,8 @@ returns-2 c =
     let told = c .before .before .before .before .before in
     let after = told .before .before .before in
     let step = c .before .before .step in
-    call-step _ _ _ _ (start after .pre) (checked after) (told .before .checked .given .1) (bank told) (ledger-size _ (ok after .kept)) (step .ensures .0)
-    (step .ensures .1)
+    call-step _ _ _ _ (start after .pre) (checked after) (told .before .checked .given .1) (bank told) (ledger-size _ (flawless _ (ok after .kept)))
+    (step .ensures .0) (step .ensures .1)
 
 pub admitted-spec : {M : Type 1} → statement M
 admitted-spec =

@@ -1,6 +1,6 @@
 use native.Mathlib.Omega.{arith}
 use mathlib.Core.Path.{_≡_, ap, sym, _∙_}
-use Rattle.ledger.specs.Sound.{soundLedger}
+use Rattle.ledger.specs.Sound.{ledgerFlaw}
 use Rattle.envelope.specs.Envelope.{reportClass, openedAs}
 use Rattle.envelope.proofs.OpenedLaws.{Whole, opened-whole}
 use Rattle.calls.specs.Filing.{lentRefusal}
@@ -35,7 +35,7 @@ abbrev start : tie.After-known-told → tie.Start
 start c = c .before .before .before .before .before .before .before .before .before .before .before .before
 
 free : (c : tie.After-known-told) → let a = start c .args in
-    lentRefusal (a .reporters .now) (a .currencies .now) (a .file .now) (soundLedger (a .ledger .now)) ≡ 0
+    lentRefusal (a .reporters .now) (a .currencies .now) (a .file .now) (ledgerFlaw (a .ledger .now)) ≡ 0
 free c = sym (c .before .before .before .before .before .lent-refusal .ensures) ∙ c .before .before .before .before .if1 .left
 
 whole : (c : tie.After-known-told) → Whole (start c .args .file .now) (c .before .opened .given .0 .0)

@@ -2,8 +2,8 @@ use Prim.Native.Nat.{_-_}
 use native.Mathlib.Omega.{arith}
 use mathlib.Core.Path.{_∙_, sym}
 use lib.ListN.{length}
+use Rattle.ledger.proofs.LedgerLaws.{flawless, ledger-size}
 use Rattle.envelope.proofs.LineLaws.{line-placed}
-use Rattle.calls.proofs.CallLaws.{ledger-size}
 use Rattle.calls.proofs.TakingLaws.{Going, going-start, going-ready, going-step, going-done}
 use Rattle.calls.proofs.filing.take_records.Statement.{statement}
 use Rattle.calls.proofs.filing.take_records.Tie as tie
@@ -39,7 +39,7 @@ loop-again c =
 same-length : tie.Need-same-length Inv-loop μ-loop
 same-length c =
     let start = c .before .before .before .before .before .before .before .before in
-    ledger-size _ (c .before .loop .inv .now .sound) ∙ sym (ledger-size _ (start .pre .sound))
+    ledger-size _ (flawless _ (c .before .loop .inv .now .inOrder)) ∙ sym (ledger-size _ (flawless _ (start .pre .inOrder)))
 
 same-length-2 : tie.Need-same-length-2 Inv-loop μ-loop
 same-length-2 c = c .before .loop .inv .long
