@@ -23,7 +23,7 @@ use Rattle.failures.specs.declared.Failures.{Failures}
 use Rattle.fields.specs.Fields.{isWhole, fieldOf, fieldBy, stopsOf, isWholeIndex}
 use Rattle.fields.proofs.FieldLaws.{field-by, whole-index}
 use Rattle.tables.specs.Reporters.{reportersOk}
-use Rattle.tables.specs.Tables.{tablesOf, tablesFlaw}
+use Rattle.tables.specs.Tables.{Tables, tablesFlaw}
 use Rattle.tables.proofs.FlawLaws.{tables-in-order, tables-never}
 use Rattle.tables.specs.Currencies.{currenciesOk, isMoney, foundMoney}
 use Rattle.tables.proofs.CurrencyLaws.{found-money}
@@ -49,36 +49,36 @@ pub call-passes : (call : Call) → nameUpTo 8 (call .sender) ≡ true → recor
 unfolding callFlaw
 call-passes call e f = sym (first-passes _ (unless-holds 13 e) (first-passes [] (unless-holds 14 f) first-end))
 
-module _ (reporters currencies : List ℕ) (call : Call) (held : ℕ) where
+module _ (tables : Tables) (call : Call) (held : ℕ) where
   -- a call to which no refusal applies
-  pub accepted-call : tablesFlaw (tablesOf reporters currencies) ≡ 0 → held ≡ 0 → callFlaw call ≡ 0 → 0 ≡ refusalOf reporters currencies call held
+  pub accepted-call : tablesFlaw tables ≡ 0 → held ≡ 0 → callFlaw call ≡ 0 → 0 ≡ refusalOf tables call held
   unfolding refusalOf
   accepted-call lent kept called = first-passes _ lent (first-passes _ kept (first-passes [] called first-end))
 
   -- what holds of a call that is not refused
   pub record Accepted : Type 0 where
-    pub listed : reportersOk reporters ≡ true
-    pub ordered : currenciesOk currencies ≡ true
+    pub listed : reportersOk (tables .reporters) ≡ true
+    pub ordered : currenciesOk (tables .currencies) ≡ true
     pub kept : held ≡ 0
     pub formed : recordForm (call .«record») ≡ true
 
-  pub accepted : refusalOf reporters currencies call held ≡ 0 → Accepted
+  pub accepted : refusalOf tables call held ≡ 0 → Accepted
   unfolding refusalOf callFlaw
   accepted e =
       let (lent, others) = first-none _ _ e in
       let (kept, last) = first-none _ _ others in
-      let (listed, ordered) = tables-in-order (tablesOf reporters currencies) lent in
+      let (listed, ordered) = tables-in-order tables lent in
       let (named, formed) = first-none _ _ (first-none _ [] last .0) in
       record { listed = listed; ordered = ordered; kept = kept; formed = unless-none _ 14 (omega arith) (first-none _ [] formed .0) }
 
 -- on a sound ledger no call is refused by 4
-pub refusal-never-four : (reporters currencies : List ℕ) (call : Call) → refusalOf reporters currencies call 0 ≢ 4
+pub refusal-never-four : (tables : Tables) (call : Call) → refusalOf tables call 0 ≢ 4
 unfolding refusalOf callFlaw
-refusal-never-four reporters currencies call =
+refusal-never-four tables call =
     let named = unless-never (nameUpTo 8 (call .sender)) 13 4 (omega arith) (omega arith) in
     let formed = unless-never (recordForm (call .«record»)) 14 4 (omega arith) (omega arith) in
     let end = end-never 4 (omega arith) in
-    first-never 4 _ _ (tables-never (tablesOf reporters currencies) 4 (omega arith))
+    first-never 4 _ _ (tables-never tables 4 (omega arith))
     (first-never 4 0 _ (omega arith) (first-never 4 _ [] (first-never 4 _ _ named (first-never 4 _ [] formed end)) end))
 
 pub record-short : (s : List ℕ) → recordForm s ≡ true → length s ≤ recordLimit
@@ -90,24 +90,26 @@ pub indexed : (s stops : List ℕ) → stops ≡ stopsOf s → (n : ℕ) → fie
 indexed s stops e n = ap (λ (t : List ℕ). fieldBy s t n) e ∙ field-by s n
 
 -- the sender check on what the index gives
-pub checked-same : (reporters sender s stops : List ℕ) {whole : Bool} {f1 f2 : List ℕ} {r : Checked} → stops ≡ stopsOf s → whole ≡ isWholeIndex stops
-    → f1 ≡ fieldBy s stops 1 → f2 ≡ fieldBy s stops 2 → r ≡ senderCheck reporters sender whole f1 f2 → r ≡ checkedOf reporters (called sender s)
+pub checked-same : (tables : Tables) (sender s stops : List ℕ) {whole : Bool} {f1 f2 : List ℕ} {r : Checked} → stops ≡ stopsOf s → whole ≡ isWholeIndex stops
+    → f1 ≡ fieldBy s stops 1 → f2 ≡ fieldBy s stops 2 → r ≡ senderCheck (tables .reporters) sender whole f1 f2 → r ≡ checkedOf tables (called sender s)
 unfolding checkedOf
-checked-same reporters sender s stops e w p q r =
-    r ∙ (λ i. senderCheck reporters sender ((w ∙ ap isWholeIndex e ∙ whole-index s) i) ((p ∙ indexed s stops e 1) i) ((q ∙ indexed s stops e 2) i))
+checked-same tables sender s stops e w p q r =
+    r ∙ (λ i. senderCheck (tables .reporters) sender ((w ∙ ap isWholeIndex e ∙ whole-index s) i) ((p ∙ indexed s stops e 1) i) ((q ∙ indexed s stops e 2) i))
 
 -- the row for which a record passes is a bank's
-pub passed-bank : (reporters : List ℕ) (call : Call) {row : ℕ} → reportersOk reporters ≡ true → checkedOf reporters call ≡ Passed row → row < bankCount
+pub passed-bank : (tables : Tables) (call : Call) {row : ℕ} → reportersOk (tables .reporters) ≡ true → checkedOf tables call ≡ Passed row
+    → row < bankCount
 unfolding checkedOf
-passed-bank reporters call ok e =
+passed-bank tables call ok e =
     let s = call .«record» in
-    omega (arith, rows-below reporters ok, passed-row reporters (call .sender) (isWhole s) (fieldOf s 1) (fieldOf s 2) e .1)
+    omega (arith, rows-below (tables .reporters) ok, passed-row (tables .reporters) (call .sender) (isWhole s) (fieldOf s 1) (fieldOf s 2) e .1)
 
 -- places 7 to 60 on what the index gives, with a search of the currency list in order
-pub record-same : (reporters currencies : List ℕ) (row : ℕ) (s stops : List ℕ) → stops ≡ stopsOf s → currenciesOk currencies ≡ true
-    → recordFailures reporters (foundMoney currencies) row (fieldBy s stops) ≡ recordFailures reporters (isMoney currencies) row (fieldOf s)
-record-same reporters currencies row s stops e ok =
-    λ i. recordFailures reporters (λ f. found-money currencies f ok i) row (λ n. indexed s stops e n i)
+pub record-same : (tables : Tables) (row : ℕ) (s stops : List ℕ) → stops ≡ stopsOf s → currenciesOk (tables .currencies) ≡ true
+    → recordFailures (tables .reporters) (foundMoney (tables .currencies)) row (fieldBy s stops)
+    ≡ recordFailures (tables .reporters) (isMoney (tables .currencies)) row (fieldOf s)
+record-same tables row s stops e ok =
+    λ i. recordFailures (tables .reporters) (λ f. found-money (tables .currencies) f ok i) row (λ n. indexed s stops e n i)
 
 free-row-le : (c : List ℕ) → freeRow c ≤ rowCount
 unfolding freeRow
@@ -122,68 +124,68 @@ unfolding bookingOf
 free-small c f16 f39 e = rw e (omega (arith, free-row-le c))
 
 -- the step: what it has judged decides its answer and the compartment afterwards
-module _ (reporters currencies : List ℕ) (row : ℕ) (s c : List ℕ) where
-  pub failures-judged : {failed : Failures} → failed ≡ recordFailures reporters (isMoney currencies) row (fieldOf s) → (failed .bits ≡ 0 → ⊥)
-      → failed ≡ stepFailures reporters currencies row s c
+module _ (tables : Tables) (row : ℕ) (s c : List ℕ) where
+  pub failures-judged : {failed : Failures} → failed ≡ recordFailures (tables .reporters) (isMoney (tables .currencies)) row (fieldOf s) → (failed .bits ≡ 0 → ⊥)
+      → failed ≡ stepFailures tables row s c
   unfolding stepFailures failuresFrom7
   failures-judged e n = e ∙ rw (ne-eqb _ 0 (λ z. n (ap (λ (f : Failures). f .bits) e ∙ z))) refl
 
-  pub failures-found : {judged failed : Failures} {found : Booking} → judged ≡ recordFailures reporters (isMoney currencies) row (fieldOf s) → judged .bits ≡ 0
-      → found ≡ foundRows reporters currencies row s c → failed ≡ found .failed → failed ≡ stepFailures reporters currencies row s c
+  pub failures-found : {judged failed : Failures} {found : Booking} → judged ≡ recordFailures (tables .reporters) (isMoney (tables .currencies)) row (fieldOf s) → judged .bits ≡ 0
+      → found ≡ foundRows tables row s c → failed ≡ found .failed → failed ≡ stepFailures tables row s c
   unfolding stepFailures failuresFrom7
   failures-found e z g f = f ∙ ap (λ (b : Booking). b .failed) g ∙ rw (eq-eqb _ 0 (sym (ap (λ (x : Failures). x .bits) e) ∙ z)) refl
 
-  pub step-failed : {failed : Failures} {a : Answer} → failed ≡ stepFailures reporters currencies row s c → (failed .bits ≡ 0 → ⊥)
-      → a ≡ answerOf failed row noRow s → (a ≡ stepAnswer reporters currencies row s c) × (c ≡ stepCompartment reporters currencies row s c)
+  pub step-failed : {failed : Failures} {a : Answer} → failed ≡ stepFailures tables row s c → (failed .bits ≡ 0 → ⊥)
+      → a ≡ answerOf failed row noRow s → (a ≡ stepAnswer tables row s c) × (c ≡ stepCompartment tables row s c)
   unfolding stepAnswer stepCompartment
   step-failed {failed} e n h =
-      let z : eqb (stepFailures reporters currencies row s c .bits) 0 ≡ false = rw (← e) (ne-eqb (failed .bits) 0 n) in
+      let z : eqb (stepFailures tables row s c .bits) 0 ≡ false = rw (← e) (ne-eqb (failed .bits) 0 n) in
       (h ∙ rw (e, z) refl, rw z refl)
 
-  pub step-booked : {failed : Failures} {found : Booking} {a : Answer} {d : List ℕ} → failed ≡ stepFailures reporters currencies row s c → failed .bits ≡ 0
-      → found ≡ foundRows reporters currencies row s c → a ≡ answerOf failed row (found .free) s → d ≡ bookedAs (found .free) (found .named) s c
-      → (a ≡ stepAnswer reporters currencies row s c) × (d ≡ stepCompartment reporters currencies row s c)
+  pub step-booked : {failed : Failures} {found : Booking} {a : Answer} {d : List ℕ} → failed ≡ stepFailures tables row s c → failed .bits ≡ 0
+      → found ≡ foundRows tables row s c → a ≡ answerOf failed row (found .free) s → d ≡ bookedAs (found .free) (found .named) s c
+      → (a ≡ stepAnswer tables row s c) × (d ≡ stepCompartment tables row s c)
   unfolding stepAnswer stepCompartment
   step-booked {failed} e n g h k =
-      let z : eqb (stepFailures reporters currencies row s c .bits) 0 ≡ true = rw (← e) (eq-eqb (failed .bits) 0 n) in
+      let z : eqb (stepFailures tables row s c .bits) 0 ≡ true = rw (← e) (eq-eqb (failed .bits) 0 n) in
       (h ∙ rw (e, z, g) refl, k ∙ rw (z, g) refl)
 
 -- The three outcomes of a call, on the ledger that it is lent.
-module _ (reporters currencies : List ℕ) (call : Call) (l : List ℕ) where
-  pub call-refused : {n : ℕ} → n ≡ refusalOf reporters currencies call (ledgerFlaw l) → n ≢ 0
-      → record { reply = R.refused n; store = l } ≡ I.single (rules reporters currencies) call l
-  call-refused {n} e ne = sym (single-refused (rules reporters currencies) call l n (sym e) ne)
+module _ (tables : Tables) (call : Call) (l : List ℕ) where
+  pub call-refused : {n : ℕ} → n ≡ refusalOf tables call (ledgerFlaw l) → n ≢ 0
+      → record { reply = R.refused n; store = l } ≡ I.single (rules tables) call l
+  call-refused {n} e ne = sym (single-refused (rules tables) call l n (sym e) ne)
 
-  module _ (e : refusalOf reporters currencies call (ledgerFlaw l) ≡ 0) {k : Checked} (q : k ≡ checkedOf reporters call) where
+  module _ (e : refusalOf tables call (ledgerFlaw l) ≡ 0) {k : Checked} (q : k ≡ checkedOf tables call) where
     pub call-stranger : {failed : Failures} {a : Answer} → k ≡ Failed failed → a ≡ answerOf (failedOf k) noReporter noRow (call .«record»)
-        → record { reply = R.accepted (answerBytes a); store = l } ≡ I.single (rules reporters currencies) call l
+        → record { reply = R.accepted (answerBytes a); store = l } ≡ I.single (rules tables) call l
     call-stranger f r =
-        let none : rowOf (checkedOf reporters call) ≡ noReporter = ap rowOf (sym q ∙ f) in
+        let none : rowOf (checkedOf tables call) ≡ noReporter = ap rowOf (sym q ∙ f) in
         ap (λ (w : Answer). record { reply = R.accepted (answerBytes w); store = l })
         (r ∙ ap (λ (m : Checked). answerOf (failedOf m) noReporter noRow (call .«record»)) q)
-        ∙ sym (single-stranger (rules reporters currencies) call l e (rw none (omega arith)))
+        ∙ sym (single-stranger (rules tables) call l e (rw none (omega arith)))
 
     -- the compartment is lent as a part of the ledger, and comes back into its place
     pub call-step : {row : ℕ} {a : Answer} {d : List ℕ} → k ≡ Passed row → row < bankCount → length l ≡ ledgerSize
         → let lent = take (row * compartmentSize + compartmentSize - row * compartmentSize) (drop (row * compartmentSize) l) in
-        a ≡ stepAnswer reporters currencies row (call .«record») lent → d ≡ stepCompartment reporters currencies row (call .«record») lent
+        a ≡ stepAnswer tables row (call .«record») lent → d ≡ stepCompartment tables row (call .«record») lent
         → record {
           reply = R.accepted (answerBytes a);
           store =
               take (row * compartmentSize) l
               ++ (d ++ drop (row * compartmentSize + compartmentSize - row * compartmentSize) (drop (row * compartmentSize) l));
-        } ≡ I.single (rules reporters currencies) call l
+        } ≡ I.single (rules tables) call l
     call-step {row} {a} {d} p h long b m =
         let inside : row * compartmentSize + compartmentSize ≤ length l = omega arith in
         let lent = part-lent compartmentSize row l inside .0 in
-        let bank : rowOf (checkedOf reporters call) ≡ row = ap rowOf (sym q ∙ p) in
+        let bank : rowOf (checkedOf tables call) ≡ row = ap rowOf (sym q ∙ p) in
         ap (λ (w : List ℕ). record { reply = R.accepted (answerBytes a); store = w }) (put-lent compartmentSize row d l)
         ∙ (λ i. record {
-          reply = R.accepted (answerBytes ((b ∙ ap (stepAnswer reporters currencies row (call .«record»)) lent) i));
-          store = put compartmentSize row ((m ∙ ap (stepCompartment reporters currencies row (call .«record»)) lent) i) l;
+          reply = R.accepted (answerBytes ((b ∙ ap (stepAnswer tables row (call .«record»)) lent) i));
+          store = put compartmentSize row ((m ∙ ap (stepCompartment tables row (call .«record»)) lent) i) l;
         })
         ∙ (λ i. record {
-          reply = R.accepted (answerBytes (stepAnswer reporters currencies (sym bank i) (call .«record») (part compartmentSize row l)));
-          store = put compartmentSize row (stepCompartment reporters currencies (sym bank i) (call .«record») (part compartmentSize row l)) l;
+          reply = R.accepted (answerBytes (stepAnswer tables (sym bank i) (call .«record») (part compartmentSize row l)));
+          store = put compartmentSize row (stepCompartment tables (sym bank i) (call .«record») (part compartmentSize row l)) l;
         })
-        ∙ sym (single-step (rules reporters currencies) call l row e bank h)
+        ∙ sym (single-step (rules tables) call l row e bank h)

@@ -11,6 +11,7 @@ use Rattle.frame.specs.Parts.{part}
 use Rattle.frame.proofs.Isolation.{isolation, stopped}
 use Rattle.frame.proofs.Consequences as consequences
 use Rattle.failures.specs.declared.Failures.{Failures}
+use Rattle.tables.specs.Tables.{Tables}
 use Rattle.ledger.specs.Sound.{bankCount, compartmentSize, soundCompartment, soundLedger, ledgerFlaw}
 use Rattle.ledger.proofs.LedgerLaws.{flaw-none, flawless, sound-part, own-put, other-put, put-sound, ledger-ext}
 use Rattle.sender.specs.declared.Checked.the-variants.{Failed}
@@ -19,16 +20,16 @@ use Rattle.calls.specs.Rules.{rules}
 use Rattle.calls.proofs.CallLaws.{accepted}
 use Rattle.calls.proofs.StepLaws.{step-sound}
 
-module _ (reporters currencies : List ℕ) where
+module _ (tables : Tables) where
   -- the compartment of a step is sound afterwards
   next-sound : (call : Call) (r : ℕ) → r < bankCount → (l : List ℕ) → ledgerFlaw l ≡ 0
-      → soundCompartment (rules reporters currencies .next call (part compartmentSize r l)) ≡ true
+      → soundCompartment (rules tables .next call (part compartmentSize r l)) ≡ true
   next-sound call r bank l h =
-      step-sound reporters currencies (rowOf (checkedOf reporters call)) (call .«record») _ (sound-part l (flawless l h) r bank)
+      step-sound tables (rowOf (checkedOf tables call)) (call .«record») _ (sound-part l (flawless l h) r bank)
 
-  pub lawful : Lawful (rules reporters currencies)
+  pub lawful : Lawful (rules tables)
   lawful = record {
-    flaw-refuses = λ call n e. accepted reporters currencies call n e .kept;
+    flaw-refuses = λ call n e. accepted tables call n e .kept;
     step-in-order = λ call r bank l h. flaw-none _ (put-sound l (flawless l h) r bank _ (next-sound call r bank l h));
     step-own = λ call r bank l h. own-put l (flawless l h) r bank _ (next-sound call r bank l h);
     step-other = λ call r bank l h. other-put l (flawless l h) r bank _ (next-sound call r bank l h);
@@ -37,35 +38,35 @@ module _ (reporters currencies : List ℕ) where
 
   -- For every pair of tables, every list of calls, refused ones included, and every sound ledger: each bank's answers and compartment are those of its
   -- lone copy, and bank after bank leaves the same ledger and the same answers.
-  pub demand3 : (calls : List Call) (l : List ℕ) → soundLedger l ≡ true → Isolated (rules reporters currencies) calls l
-  demand3 calls l h = isolation (rules reporters currencies) lawful calls l (flaw-none l h)
+  pub demand3 : (calls : List Call) (l : List ℕ) → soundLedger l ≡ true → Isolated (rules tables) calls l
+  demand3 calls l h = isolation (rules tables) lawful calls l (flaw-none l h)
 
   -- ".. the ledger staying sound ..", in document 01's own word
-  pub demand3-sound : (calls : List Call) (l : List ℕ) → soundLedger l ≡ true → soundLedger (storeAfter (rules reporters currencies) calls l) ≡ true
+  pub demand3-sound : (calls : List Call) (l : List ℕ) → soundLedger l ≡ true → soundLedger (storeAfter (rules tables) calls l) ≡ true
   demand3-sound calls l h = flawless _ (demand3 calls l h .staysInOrder)
 
   -- On a ledger that is not sound every call of the list is refused, and the ledger stays byte for byte as it is.
-  pub demand3-stopped : (calls : List Call) (l : List ℕ) → soundLedger l ≡ false → Stopped (rules reporters currencies) calls l
-  demand3-stopped calls l h = stopped (rules reporters currencies) lawful l (λ z. false≢true (sym h ∙ flawless l z)) calls
+  pub demand3-stopped : (calls : List Call) (l : List ℕ) → soundLedger l ≡ false → Stopped (rules tables) calls l
+  demand3-stopped calls l h = stopped (rules tables) lawful l (λ z. false≢true (sym h ∙ flawless l z)) calls
 
   -- The first moment at which the ledger is looked into: a record that fails places 0 to 6 is answered alike whatever a sound ledger holds.
   pub sender-check-blind : (call : Call) {failed : Failures} (l m : List ℕ) → soundLedger l ≡ true → soundLedger m ≡ true
-      → checkedOf reporters call ≡ Failed failed → single (rules reporters currencies) call l .reply ≡ single (rules reporters currencies) call m .reply
+      → checkedOf tables call ≡ Failed failed → single (rules tables) call l .reply ≡ single (rules tables) call m .reply
   sender-check-blind call l m h k e =
-      let none : bankCount ≤ rowOf (checkedOf reporters call) = rw e (omega arith) in
-      consequences.stranger-blind (rules reporters currencies) call l m (flaw-none l h) (flaw-none m k) none
+      let none : bankCount ≤ rowOf (checkedOf tables call) = rw e (omega arith) in
+      consequences.stranger-blind (rules tables) call l m (flaw-none l h) (flaw-none m k) none
 
   -- Two ledgers that agree on a bank's compartment give that bank the same answers, and leave it the same compartment, after any list of calls.
   module _ (calls : List Call) (l m : List ℕ) (h : soundLedger l ≡ true) (k : soundLedger m ≡ true) (r : ℕ) (bank : r < bankCount)
       (agree : part compartmentSize r l ≡ part compartmentSize r m) where
-    pub own-answers : answersFor (rules reporters currencies) r calls l ≡ answersFor (rules reporters currencies) r calls m
-    own-answers = consequences.own-answers (rules reporters currencies) lawful calls l m (flaw-none l h) (flaw-none m k) r bank agree
+    pub own-answers : answersFor (rules tables) r calls l ≡ answersFor (rules tables) r calls m
+    own-answers = consequences.own-answers (rules tables) lawful calls l m (flaw-none l h) (flaw-none m k) r bank agree
 
-    pub own-compartment : part compartmentSize r (storeAfter (rules reporters currencies) calls l)
-        ≡ part compartmentSize r (storeAfter (rules reporters currencies) calls m)
-    own-compartment = consequences.own-state (rules reporters currencies) lawful calls l m (flaw-none l h) (flaw-none m k) r bank agree
+    pub own-compartment : part compartmentSize r (storeAfter (rules tables) calls l)
+        ≡ part compartmentSize r (storeAfter (rules tables) calls m)
+    own-compartment = consequences.own-state (rules tables) lawful calls l m (flaw-none l h) (flaw-none m k) r bank agree
 
   -- The calls of two banks leave the same ledger in either order.
-  pub banks-commute : (a b : Call) (l : List ℕ) → soundLedger l ≡ true → rowOf (checkedOf reporters a) ≢ rowOf (checkedOf reporters b)
-      → storeAfter (rules reporters currencies) (a ∷ b ∷ []) l ≡ storeAfter (rules reporters currencies) (b ∷ a ∷ []) l
-  banks-commute a b l h differ = consequences.calls-commute (rules reporters currencies) lawful a b l (flaw-none l h) differ
+  pub banks-commute : (a b : Call) (l : List ℕ) → soundLedger l ≡ true → rowOf (checkedOf tables a) ≢ rowOf (checkedOf tables b)
+      → storeAfter (rules tables) (a ∷ b ∷ []) l ≡ storeAfter (rules tables) (b ∷ a ∷ []) l
+  banks-commute a b l h differ = consequences.calls-commute (rules tables) lawful a b l (flaw-none l h) differ

@@ -15,6 +15,7 @@ use Rattle.frame.specs.Isolation.{act, single, replies, storeAfter}
 use Rattle.frame.proofs.BoolLaws.{and-intro}
 use Rattle.frame.proofs.Consequences.{after-append, replies-append}
 use Rattle.text.specs.Bytes.{all}
+use Rattle.tables.specs.Tables.{Tables}
 use Rattle.ledger.specs.Sound.{bankCount, soundLedger, ledgerFlaw}
 use Rattle.ledger.proofs.LedgerLaws.{flaw-none}
 use Rattle.answer.specs.Answer.{answerSize}
@@ -28,128 +29,128 @@ use Rattle.calls.proofs.Demand3.{demand3}
 use Rattle.calls.proofs.ListLaws.{answers-append, after-in-order, answers-sized}
 use Rattle.calls.proofs.ReadingLaws.{many-refusal, standing-admitted, reading-never-four}
 
-module _ (reporters currencies : List ℕ) where
+module _ (tables : Tables) where
   -- a request leaves and answers what the calls do that it stands for
   request-store : (q : Request) (l : List ℕ) → ledgerFlaw l ≡ 0
-      → requestStore reporters currencies q l ≡ storeAfter (rules reporters currencies) (requestCalls reporters currencies q) l
+      → requestStore tables q l ≡ storeAfter (rules tables) (requestCalls tables q) l
   unfolding fileOf carriedOut
   request-store (record-call c) l h = refl
   request-store (file-call file a) l h =
-      ap (λ (n : ℕ). carriedOut reporters currencies (readingOf reporters currencies file (length a) n) l a .store) h
-      ∙ go (readingOf reporters currencies file (length a) 0)
+      ap (λ (n : ℕ). carriedOut tables (readingOf tables file (length a) n) l a .store) h
+      ∙ go (readingOf tables file (length a) 0)
     where
-      go : (w : Reply (List Call)) → carriedOut reporters currencies w l a .store ≡ storeAfter (rules reporters currencies) (callsOf reporters currencies w) l
+      go : (w : Reply (List Call)) → carriedOut tables w l a .store ≡ storeAfter (rules tables) (callsOf tables w) l
       go (refused n) = refl
       go (accepted calls) = refl
 
   request-answers : (q : Request) (l : List ℕ) → ledgerFlaw l ≡ 0
-      → requestAnswers reporters currencies q l ≡ answersIn (replies (rules reporters currencies) (requestCalls reporters currencies q) l)
+      → requestAnswers tables q l ≡ answersIn (replies (rules tables) (requestCalls tables q) l)
   unfolding fileOf carriedOut answersIn
   request-answers (record-call c) l h = refl
   request-answers (file-call file a) l h =
-      ap (λ (n : ℕ). answersOf (carriedOut reporters currencies (readingOf reporters currencies file (length a) n) l a)) h
-      ∙ go (readingOf reporters currencies file (length a) 0) refl
+      ap (λ (n : ℕ). answersOf (carriedOut tables (readingOf tables file (length a) n) l a)) h
+      ∙ go (readingOf tables file (length a) 0) refl
     where
-      go : (w : Reply (List Call)) → readingOf reporters currencies file (length a) 0 ≡ w
-          → answersOf (carriedOut reporters currencies w l a) ≡ answersIn (replies (rules reporters currencies) (callsOf reporters currencies w) l)
+      go : (w : Reply (List Call)) → readingOf tables file (length a) 0 ≡ w
+          → answersOf (carriedOut tables w l a) ≡ answersIn (replies (rules tables) (callsOf tables w) l)
       go (refused n) e = refl
       go (accepted calls) e =
-          take-at (answersIn (replies (rules reporters currencies) calls l)) _ (length calls * answerSize)
-          (answers-sized reporters currencies calls l (standing-admitted reporters currencies file (length a) calls e) h)
+          take-at (answersIn (replies (rules tables) calls l)) _ (length calls * answerSize)
+          (answers-sized tables calls l (standing-admitted tables file (length a) calls e) h)
 
   -- and so does a list of them
   store-over : (qs : List Request) (l : List ℕ) → ledgerFlaw l ≡ 0
-      → storeOver reporters currencies qs l ≡ storeAfter (rules reporters currencies) (callsOver reporters currencies qs) l
+      → storeOver tables qs l ≡ storeAfter (rules tables) (callsOver tables qs) l
   store-over [] l h = refl
   store-over (q ∷ qs) l h =
-      let calls : List Call = requestCalls reporters currencies q in
-      ap (storeOver reporters currencies qs) (request-store q l h)
-      ∙ store-over qs (storeAfter (rules reporters currencies) calls l) (after-in-order reporters currencies calls l h)
-      ∙ sym (after-append (rules reporters currencies) calls (callsOver reporters currencies qs) l)
+      let calls : List Call = requestCalls tables q in
+      ap (storeOver tables qs) (request-store q l h)
+      ∙ store-over qs (storeAfter (rules tables) calls l) (after-in-order tables calls l h)
+      ∙ sym (after-append (rules tables) calls (callsOver tables qs) l)
 
   answers-over : (qs : List Request) (l : List ℕ) → ledgerFlaw l ≡ 0
-      → answersOver reporters currencies qs l ≡ answersIn (replies (rules reporters currencies) (callsOver reporters currencies qs) l)
+      → answersOver tables qs l ≡ answersIn (replies (rules tables) (callsOver tables qs) l)
   unfolding answersIn
   answers-over [] l h = refl
   answers-over (q ∷ qs) l h =
-      let calls : List Call = requestCalls reporters currencies q in
-      let rest : List Call = callsOver reporters currencies qs in
-      let next : List ℕ = storeAfter (rules reporters currencies) calls l in
-      (λ i. request-answers q l h i ++ answersOver reporters currencies qs (request-store q l h i))
-      ∙ ap (λ (w : List ℕ). answersIn (replies (rules reporters currencies) calls l) ++ w)
-      (answers-over qs next (after-in-order reporters currencies calls l h))
-      ∙ sym (answers-append (replies (rules reporters currencies) calls l) (replies (rules reporters currencies) rest next))
-      ∙ ap answersIn (sym (replies-append (rules reporters currencies) calls rest l))
+      let calls : List Call = requestCalls tables q in
+      let rest : List Call = callsOver tables qs in
+      let next : List ℕ = storeAfter (rules tables) calls l in
+      (λ i. request-answers q l h i ++ answersOver tables qs (request-store q l h i))
+      ∙ ap (λ (w : List ℕ). answersIn (replies (rules tables) calls l) ++ w)
+      (answers-over qs next (after-in-order tables calls l h))
+      ∙ sym (answers-append (replies (rules tables) calls l) (replies (rules tables) rest next))
+      ∙ ap answersIn (sym (replies-append (rules tables) calls rest l))
 
   -- a file call returns the number of its refusal, or how many calls it stands for
   pub file-told : (file l a : List ℕ)
-      → fileOf reporters currencies file l a .reply ≡ manyAnswers (readingOf reporters currencies file (length a) (ledgerFlaw l))
+      → fileOf tables file l a .reply ≡ manyAnswers (readingOf tables file (length a) (ledgerFlaw l))
   unfolding fileOf carriedOut
-  file-told file l a = go (readingOf reporters currencies file (length a) (ledgerFlaw l))
+  file-told file l a = go (readingOf tables file (length a) (ledgerFlaw l))
     where
-      go : (w : Reply (List Call)) → carriedOut reporters currencies w l a .reply ≡ manyAnswers w
+      go : (w : Reply (List Call)) → carriedOut tables w l a .reply ≡ manyAnswers w
       go (refused n) = refl
       go (accepted calls) = refl
 
   -- on a ledger in order a request returns what it returns on every other
-  request-reply : (q : Request) (l : List ℕ) → ledgerFlaw l ≡ 0 → requestReply reporters currencies q l ≡ soundReply reporters currencies q
+  request-reply : (q : Request) (l : List ℕ) → ledgerFlaw l ≡ 0 → requestReply tables q l ≡ soundReply tables q
   unfolding single
   request-reply (record-call c) l h =
-      let n : ℕ = refusalOf reporters currencies c (ledgerFlaw l) in
-      one-act n (eqb n 0) (ltb (rowOf (checkedOf reporters c)) bankCount)
-      ∙ ap (λ (k : ℕ). cond (eqb (refusalOf reporters currencies c k) 0) (accepted 1) (refused (refusalOf reporters currencies c k))) h
+      let n : ℕ = refusalOf tables c (ledgerFlaw l) in
+      one-act n (eqb n 0) (ltb (rowOf (checkedOf tables c)) bankCount)
+      ∙ ap (λ (k : ℕ). cond (eqb (refusalOf tables c k) 0) (accepted 1) (refused (refusalOf tables c k))) h
     where
-      one-act : (n : ℕ) (f b : Bool) → oneAnswer (act (rules reporters currencies) c l n f b .reply) ≡ cond f (accepted 1) (refused n)
+      one-act : (n : ℕ) (f b : Bool) → oneAnswer (act (rules tables) c l n f b .reply) ≡ cond f (accepted 1) (refused n)
       one-act n true true = refl
       one-act n true false = refl
       one-act n false b = refl
-  request-reply (file-call file a) l h = file-told file l a ∙ ap (λ (n : ℕ). manyAnswers (readingOf reporters currencies file (length a) n)) h
+  request-reply (file-call file a) l h = file-told file l a ∙ ap (λ (n : ℕ). manyAnswers (readingOf tables file (length a) n)) h
 
-  replies-over : (qs : List Request) (l : List ℕ) → ledgerFlaw l ≡ 0 → repliesOver reporters currencies qs l ≡ map (soundReply reporters currencies) qs
+  replies-over : (qs : List Request) (l : List ℕ) → ledgerFlaw l ≡ 0 → repliesOver tables qs l ≡ map (soundReply tables) qs
   replies-over [] l h = refl
   replies-over (q ∷ qs) l h =
-      let calls : List Call = requestCalls reporters currencies q in
-      let next : ledgerFlaw (requestStore reporters currencies q l) ≡ 0
-      = ap ledgerFlaw (request-store q l h) ∙ after-in-order reporters currencies calls l h in
+      let calls : List Call = requestCalls tables q in
+      let next : ledgerFlaw (requestStore tables q l) ≡ 0
+      = ap ledgerFlaw (request-store q l h) ∙ after-in-order tables calls l h in
       rw (request-reply q l h, replies-over qs _ next) refl
 
   -- and that is never a refusal by 4
-  sound-never-four : (q : Request) → refusalIn (soundReply reporters currencies q) ≢ 4
-  sound-never-four (record-call c) = go (eqb (refusalOf reporters currencies c 0) 0)
+  sound-never-four : (q : Request) → refusalIn (soundReply tables q) ≢ 4
+  sound-never-four (record-call c) = go (eqb (refusalOf tables c 0) 0)
     where
-      go : (b : Bool) → refusalIn {A = ℕ} (cond b (accepted 1) (refused (refusalOf reporters currencies c 0))) ≢ 4
+      go : (b : Bool) → refusalIn {A = ℕ} (cond b (accepted 1) (refused (refusalOf tables c 0))) ≢ 4
       go true = omega arith
-      go false = refusal-never-four reporters currencies c
+      go false = refusal-never-four tables c
   sound-never-four (file-call file a) =
-      let w : Reply (List Call) = readingOf reporters currencies file (length a) 0 in
-      λ e. reading-never-four reporters currencies file (length a) (sym (many-refusal w) ∙ e)
+      let w : Reply (List Call) = readingOf tables file (length a) 0 in
+      λ e. reading-never-four tables file (length a) (sym (many-refusal w) ∙ e)
 
-  never-four : (qs : List Request) → all (λ n. not (eqb n 4)) (map refusalIn (map (soundReply reporters currencies) qs)) ≡ true
+  never-four : (qs : List Request) → all (λ n. not (eqb n 4)) (map refusalIn (map (soundReply tables) qs)) ≡ true
   unfolding all
   never-four [] = refl
   never-four (q ∷ qs) = and-intro _ _ (ap not (ne-eqb _ 4 (sound-never-four q))) (never-four qs)
 
   -- For every pair of tables, every list of calls and files, refused ones included, and every sound ledger: a file is its records called singly, in
   -- order, by its sender; and each bank's answers and compartment are those of its lone copy.
-  pub demand3-files : (qs : List Request) (l : List ℕ) → soundLedger l ≡ true → FilesIsolated reporters currencies qs l
+  pub demand3-files : (qs : List Request) (l : List ℕ) → soundLedger l ≡ true → FilesIsolated tables qs l
   demand3-files qs l h =
       record {
         sameStore = store-over qs l (flaw-none l h);
         sameAnswers = answers-over qs l (flaw-none l h);
         sameReplies = replies-over qs l (flaw-none l h);
         neverFour = rw (replies-over qs l (flaw-none l h)) (never-four qs);
-        isolated = demand3 reporters currencies (callsOver reporters currencies qs) l h;
+        isolated = demand3 tables (callsOver tables qs) l h;
       }
 
   -- two lists of requests in a row; and a list leaves a ledger in order
   pub over-append : (ps qs : List Request) (l : List ℕ)
-      → (storeOver reporters currencies (ps ++ qs) l ≡ storeOver reporters currencies qs (storeOver reporters currencies ps l))
-      × (answersOver reporters currencies (ps ++ qs) l
-      ≡ answersOver reporters currencies ps l ++ answersOver reporters currencies qs (storeOver reporters currencies ps l))
+      → (storeOver tables (ps ++ qs) l ≡ storeOver tables qs (storeOver tables ps l))
+      × (answersOver tables (ps ++ qs) l
+      ≡ answersOver tables ps l ++ answersOver tables qs (storeOver tables ps l))
   over-append [] qs l = (refl, refl)
   over-append (p ∷ ps) qs l =
-      let rest = over-append ps qs (requestStore reporters currencies p l) in
-      (rest .0, ap (λ (w : List ℕ). requestAnswers reporters currencies p l ++ w) (rest .1) ∙ sym (append-assoc (requestAnswers reporters currencies p l) _ _))
+      let rest = over-append ps qs (requestStore tables p l) in
+      (rest .0, ap (λ (w : List ℕ). requestAnswers tables p l ++ w) (rest .1) ∙ sym (append-assoc (requestAnswers tables p l) _ _))
 
-  pub over-in-order : (qs : List Request) (l : List ℕ) → ledgerFlaw l ≡ 0 → ledgerFlaw (storeOver reporters currencies qs l) ≡ 0
-  over-in-order qs l h = ap ledgerFlaw (store-over qs l h) ∙ after-in-order reporters currencies (callsOver reporters currencies qs) l h
+  pub over-in-order : (qs : List Request) (l : List ℕ) → ledgerFlaw l ≡ 0 → ledgerFlaw (storeOver tables qs l) ≡ 0
+  over-in-order qs l h = ap ledgerFlaw (store-over qs l h) ∙ after-in-order tables (callsOver tables qs) l h

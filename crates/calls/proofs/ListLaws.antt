@@ -12,6 +12,7 @@ use Rattle.frame.specs.Reply.{Reply, refused, accepted}
 use Rattle.frame.specs.Isolation.{single, replies, storeAfter}
 use Rattle.frame.proofs.Isolation as isolated
 use Rattle.frame.proofs.Isolation.{single-stranger, single-step}
+use Rattle.tables.specs.Tables.{Tables}
 use Rattle.ledger.specs.Sound.{bankCount, ledgerFlaw}
 use Rattle.answer.specs.Answer.{answerSize}
 use Rattle.answer.proofs.AnswerLaws.{answer-length}
@@ -27,30 +28,30 @@ answers-append [] ws = refl
 answers-append (refused n ∷ vs) ws = answers-append vs ws
 answers-append (accepted a ∷ vs) ws = rw (answers-append vs ws, append-assoc)
 
-module _ (reporters currencies : List ℕ) where
+module _ (tables : Tables) where
   -- a list of calls leaves a ledger in order
-  pub after-in-order : (calls : List Call) (l : List ℕ) → ledgerFlaw l ≡ 0 → ledgerFlaw (storeAfter (rules reporters currencies) calls l) ≡ 0
-  after-in-order = isolated.after-in-order (rules reporters currencies) (lawful reporters currencies)
+  pub after-in-order : (calls : List Call) (l : List ℕ) → ledgerFlaw l ≡ 0 → ledgerFlaw (storeAfter (rules tables) calls l) ≡ 0
+  after-in-order = isolated.after-in-order (rules tables) (lawful tables)
 
   -- a call that is not refused is answered by sixteen bytes
-  pub single-answered : (call : Call) (l : List ℕ) → refusalOf reporters currencies call (ledgerFlaw l) ≡ 0
-      → length (answersIn (single (rules reporters currencies) call l .reply ∷ [])) ≡ answerSize
+  pub single-answered : (call : Call) (l : List ℕ) → refusalOf tables call (ledgerFlaw l) ≡ 0
+      → length (answersIn (single (rules tables) call l .reply ∷ [])) ≡ answerSize
   unfolding answersIn
-  single-answered call l free = go (ltb (rowOf (checkedOf reporters call)) bankCount) refl
+  single-answered call l free = go (ltb (rowOf (checkedOf tables call)) bankCount) refl
     where
-      go : (b : Bool) → ltb (rowOf (checkedOf reporters call)) bankCount ≡ b
-          → length (answersIn (single (rules reporters currencies) call l .reply ∷ [])) ≡ answerSize
-      go true h = rw (single-step (rules reporters currencies) call l _ free refl (ltb-true _ _ h), append-nil) (answer-length _)
-      go false h = rw (single-stranger (rules reporters currencies) call l free (ltb-false _ _ h), append-nil) (answer-length _)
+      go : (b : Bool) → ltb (rowOf (checkedOf tables call)) bankCount ≡ b
+          → length (answersIn (single (rules tables) call l .reply ∷ [])) ≡ answerSize
+      go true h = rw (single-step (rules tables) call l _ free refl (ltb-true _ _ h), append-nil) (answer-length _)
+      go false h = rw (single-stranger (rules tables) call l free (ltb-false _ _ h), append-nil) (answer-length _)
 
   -- the answers of a list without refusals
-  pub answers-sized : (calls : List Call) (l : List ℕ) → Admitted reporters currencies calls → ledgerFlaw l ≡ 0
-      → length (answersIn (replies (rules reporters currencies) calls l)) ≡ length calls * answerSize
+  pub answers-sized : (calls : List Call) (l : List ℕ) → Admitted tables calls → ledgerFlaw l ≡ 0
+      → length (answersIn (replies (rules tables) calls l)) ≡ length calls * answerSize
   unfolding answersIn
   answers-sized [] l h sound = refl
   answers-sized (c ∷ cs) l h sound =
-      let first = single-answered c l (ap (refusalOf reporters currencies c) sound ∙ h .0) in
-      let next : List ℕ = single (rules reporters currencies) c l .store in
+      let first = single-answered c l (ap (refusalOf tables c) sound ∙ h .0) in
+      let next : List ℕ = single (rules tables) c l .store in
       let rest = answers-sized cs next (h .1) (after-in-order (c ∷ []) l sound) in
-      ap length (answers-append (single (rules reporters currencies) c l .reply ∷ []) (replies (rules reporters currencies) cs next))
+      ap length (answers-append (single (rules tables) c l .reply ∷ []) (replies (rules tables) cs next))
       ∙ rw length-append (omega arith)

@@ -12,7 +12,7 @@ use lib.Dec.{ltb}
 use lib.ListN.{length, length-take, length-drop, length-map}
 use Rattle.frame.specs.Reply.{Reply, refused, accepted, refusalIn}
 use Rattle.frame.proofs.ReplyLaws.{unless-holds, unless-none, unless-never, first-passes, first-end, first-none, end-never, first-never}
-use Rattle.tables.specs.Tables.{tablesOf, tablesFlaw}
+use Rattle.tables.specs.Tables.{Tables, tablesFlaw}
 use Rattle.tables.proofs.FlawLaws.{tables-never}
 use Rattle.ledger.specs.Sound.{ledgerFlaw}
 use Rattle.answer.specs.Answer.{answerSize}
@@ -29,19 +29,19 @@ use Rattle.calls.specs.Mixed.{manyAnswers}
 use Rattle.calls.specs.FileSteps.{callsFrom, Admitted, Open}
 use Rattle.calls.proofs.RecordLaws.{body-admitted}
 
-module _ (reporters currencies file : List ℕ) (held : ℕ) where
+module _ (tables : Tables) (file : List ℕ) (held : ℕ) where
   -- none of refusals 1 to 4 applies
-  pub lent-none : length file ≤ fileLimit → tablesFlaw (tablesOf reporters currencies) ≡ 0 → held ≡ 0 → 0 ≡ lentRefusal reporters currencies file held
+  pub lent-none : length file ≤ fileLimit → tablesFlaw tables ≡ 0 → held ≡ 0 → 0 ≡ lentRefusal tables file held
   unfolding lentRefusal
   lent-none h lent kept = first-passes _ (unless-holds 1 (le-leb _ _ h)) (first-passes _ lent (first-passes [] kept first-end))
 
   -- what holds of a file to which none of them applies
   pub record Lent : Type 0 where
     pub short : length file ≤ fileLimit
-    pub lent : tablesFlaw (tablesOf reporters currencies) ≡ 0
+    pub lent : tablesFlaw tables ≡ 0
     pub kept : held ≡ 0
 
-  pub lent-ok : lentRefusal reporters currencies file held ≡ 0 → Lent
+  pub lent-ok : lentRefusal tables file held ≡ 0 → Lent
   unfolding lentRefusal
   lent-ok e =
       let (short, others) = first-none _ _ e in
@@ -49,18 +49,18 @@ module _ (reporters currencies file : List ℕ) (held : ℕ) where
       record { short = leb-true _ _ (unless-none _ 1 (omega arith) short); lent = lent; kept = first-none _ [] last .0 }
 
   -- a file call is refused by them, or read on
-  pub reading-lent : {n : ℕ} (room : ℕ) → n ≡ lentRefusal reporters currencies file held → n ≢ 0
-      → readingOf reporters currencies file room held ≡ refused n
+  pub reading-lent : {n : ℕ} (room : ℕ) → n ≡ lentRefusal tables file held → n ≢ 0
+      → readingOf tables file room held ≡ refused n
   unfolding readingOf
   reading-lent {n} room e ne = rw (← e, ne-eqb n 0 ne)
 
-  pub reading-on : (room : ℕ) → lentRefusal reporters currencies file held ≡ 0
-      → readingOf reporters currencies file room held ≡ openedReading file room (reportOf file)
+  pub reading-on : (room : ℕ) → lentRefusal tables file held ≡ 0
+      → readingOf tables file room held ≡ openedReading file room (reportOf file)
   unfolding readingOf
   reading-on room e = rw e
 
 -- A report to which none of them applies: its body, whose records are all in form, and the calls that it stands for.
-module _ (reporters currencies file : List ℕ) (held : ℕ) (free : Lent reporters currencies file held) (l : Layout) (e : reportOf file ≡ accepted l) where
+module _ (tables : Tables) (file : List ℕ) (held : ℕ) (free : Lent tables file held) (l : Layout) (e : reportOf file ≡ accepted l) where
   abbrev body : List ℕ
   body = between file (l .first) (l .end)
 
@@ -71,48 +71,48 @@ module _ (reporters currencies file : List ℕ) (held : ℕ) (free : Lent report
   unfolding reportCalls recordsFrom
   report-calls = refl
 
-  pub report-admitted : Admitted reporters currencies (callsFrom (senderOf file l) body 0)
+  pub report-admitted : Admitted tables (callsFrom (senderOf file l) body 0)
   unfolding recordsFrom
   report-admitted =
       let short : length body ≤ recordLimit = (let h = free .short in simp (length-take, length-drop) (omega arith)) in
-      body-admitted reporters currencies (senderOf file l) (free .lent) (whole .named) body short
+      body-admitted tables (senderOf file l) (free .lent) (whole .named) body short
 
   pub report-open : (m a : List ℕ) → ledgerFlaw m ≡ 0 → l .records * answerSize ≤ length a
-      → Open reporters currencies (senderOf file l) body 0 0 m a
+      → Open tables (senderOf file l) body 0 0 m a
   unfolding recordsFrom
   report-open m a h room =
       let count : length (callsFrom (senderOf file l) body 0) ≡ l .records = length-map (recordsFrom file l) (called (senderOf file l)) ∙ whole .count in
       record { whole = whole .counts; admitted = report-admitted; inOrder = h; room = omega arith }
 
 -- no call that a file stands for is refused
-module _ (reporters currencies file : List ℕ) (room : ℕ) (calls : List Call) where
-  opened-admitted : Lent reporters currencies file 0 → (o : Reply Layout) → reportOf file ≡ o → openedReading file room o ≡ accepted calls
-      → Admitted reporters currencies calls
+module _ (tables : Tables) (file : List ℕ) (room : ℕ) (calls : List Call) where
+  opened-admitted : Lent tables file 0 → (o : Reply Layout) → reportOf file ≡ o → openedReading file room o ≡ accepted calls
+      → Admitted tables calls
   opened-admitted free (refused n) q h = let z : _≡_ {A = ℕ} 0 1 = cc in absurd (omega arith)
   opened-admitted free (accepted l) q h = go (ltb room (l .records * answerSize)) h
     where
-      go : (b : Bool) → cond b (refused 12) (accepted (reportCalls file l)) ≡ accepted calls → Admitted reporters currencies calls
+      go : (b : Bool) → cond b (refused 12) (accepted (reportCalls file l)) ≡ accepted calls → Admitted tables calls
       go true h = let z : _≡_ {A = ℕ} 0 1 = cc in absurd (omega arith)
       go false h =
           let same : reportCalls file l ≡ calls = cc in
-          rw (← same, ← report-calls reporters currencies file 0 free l q) (report-admitted reporters currencies file 0 free l q)
+          rw (← same, ← report-calls tables file 0 free l q) (report-admitted tables file 0 free l q)
 
-  pub standing-admitted : readingOf reporters currencies file room 0 ≡ accepted calls → Admitted reporters currencies calls
-  standing-admitted e = go (ℕ-discrete (lentRefusal reporters currencies file 0) 0)
+  pub standing-admitted : readingOf tables file room 0 ≡ accepted calls → Admitted tables calls
+  standing-admitted e = go (ℕ-discrete (lentRefusal tables file 0) 0)
     where
-      go : Dec (lentRefusal reporters currencies file 0 ≡ 0) → Admitted reporters currencies calls
+      go : Dec (lentRefusal tables file 0 ≡ 0) → Admitted tables calls
       go (yes z) =
-          opened-admitted (lent-ok reporters currencies file 0 z) (reportOf file) refl (sym (reading-on reporters currencies file 0 room z) ∙ e)
+          opened-admitted (lent-ok tables file 0 z) (reportOf file) refl (sym (reading-on tables file 0 room z) ∙ e)
       go (no ne) =
-          let told : readingOf reporters currencies file room 0 ≡ refused (lentRefusal reporters currencies file 0)
-          = reading-lent reporters currencies file 0 room refl ne in
+          let told : readingOf tables file room 0 ≡ refused (lentRefusal tables file 0)
+          = reading-lent tables file 0 room refl ne in
           let z : _≡_ {A = ℕ} 0 1 = cc in
           absurd (omega arith)
 
 -- a number that a file is not refused by: one by which neither what is lent nor an envelope nor the buffer refuses
-reading-never : (reporters currencies file : List ℕ) (room held k : ℕ) → (lentRefusal reporters currencies file held ≢ 0 → lentRefusal reporters currencies file held ≢ k)
-    → k < 5 → (n : ℕ) → readingOf reporters currencies file room held ≡ refused n → n ≢ k
-reading-never reporters currencies file room held k lent small n e same = go (ℕ-discrete (lentRefusal reporters currencies file held) 0)
+reading-never : (tables : Tables) (file : List ℕ) (room held k : ℕ) → (lentRefusal tables file held ≢ 0 → lentRefusal tables file held ≢ k)
+    → k < 5 → (n : ℕ) → readingOf tables file room held ≡ refused n → n ≢ k
+reading-never tables file room held k lent small n e same = go (ℕ-discrete (lentRefusal tables file held) 0)
   where
     full : (l : Layout) (b : Bool) → cond b (refused 12) (accepted (reportCalls file l)) ≡ refused n → ⊥
     full l true q = let m : n ≡ 12 = cc in omega arith
@@ -122,30 +122,30 @@ reading-never reporters currencies file room held k lent small n e same = go (�
     opened (refused m) q h = let here : m ≡ n = cc in let five = refused-from-five reportClass file m q in omega arith
     opened (accepted l) q h = full l (ltb room (l .records * answerSize)) h
 
-    go : Dec (lentRefusal reporters currencies file held ≡ 0) → ⊥
-    go (yes free) = opened (reportOf file) refl (sym (reading-on reporters currencies file held room free) ∙ e)
+    go : Dec (lentRefusal tables file held ≡ 0) → ⊥
+    go (yes free) = opened (reportOf file) refl (sym (reading-on tables file held room free) ∙ e)
     go (no ne) =
-        let told : readingOf reporters currencies file room held ≡ refused (lentRefusal reporters currencies file held)
-        = reading-lent reporters currencies file held room refl ne in
-        let here : lentRefusal reporters currencies file held ≡ n = cc in
+        let told : readingOf tables file room held ≡ refused (lentRefusal tables file held)
+        = reading-lent tables file held room refl ne in
+        let here : lentRefusal tables file held ≡ n = cc in
         lent ne (here ∙ same)
 
 -- a file is refused by a number, and not by 0
-pub reading-refused : (reporters currencies file : List ℕ) (room held n : ℕ) → readingOf reporters currencies file room held ≡ refused n → n ≢ 0
-reading-refused reporters currencies file room held = reading-never reporters currencies file room held 0 (λ ne. ne) (omega arith)
+pub reading-refused : (tables : Tables) (file : List ℕ) (room held n : ℕ) → readingOf tables file room held ≡ refused n → n ≢ 0
+reading-refused tables file room held = reading-never tables file room held 0 (λ ne. ne) (omega arith)
 
 -- on a sound ledger no file is refused by 4
-lent-never-four : (reporters currencies file : List ℕ) → lentRefusal reporters currencies file 0 ≢ 4
+lent-never-four : (tables : Tables) (file : List ℕ) → lentRefusal tables file 0 ≢ 4
 unfolding lentRefusal
-lent-never-four reporters currencies file =
+lent-never-four tables file =
     first-never 4 _ _ (unless-never _ 1 4 (omega arith) (omega arith))
-    (first-never 4 _ _ (tables-never (tablesOf reporters currencies) 4 (omega arith)) (first-never 4 0 [] (omega arith) (end-never 4 (omega arith))))
+    (first-never 4 _ _ (tables-never tables 4 (omega arith)) (first-never 4 0 [] (omega arith) (end-never 4 (omega arith))))
 
-pub reading-never-four : (reporters currencies file : List ℕ) (room : ℕ) → refusalIn (readingOf reporters currencies file room 0) ≢ 4
-reading-never-four reporters currencies file room = go (readingOf reporters currencies file room 0) refl
+pub reading-never-four : (tables : Tables) (file : List ℕ) (room : ℕ) → refusalIn (readingOf tables file room 0) ≢ 4
+reading-never-four tables file room = go (readingOf tables file room 0) refl
   where
-    go : (w : Reply (List Call)) → readingOf reporters currencies file room 0 ≡ w → refusalIn w ≢ 4
-    go (refused n) e = reading-never reporters currencies file room 0 4 (λ ne. lent-never-four reporters currencies file) (omega arith) n e
+    go : (w : Reply (List Call)) → readingOf tables file room 0 ≡ w → refusalIn w ≢ 4
+    go (refused n) e = reading-never tables file room 0 4 (λ ne. lent-never-four tables file) (omega arith) n e
     go (accepted calls) e = omega arith
 
 -- a file call returns the number of its refusal, or how many calls it stands for
@@ -154,38 +154,38 @@ many-refusal (refused n) = refl
 many-refusal (accepted calls) = refl
 
 -- The returns of the file call, on the ledger and the buffer that it is lent.
-module _ (reporters currencies file l a : List ℕ) where
-  pub file-lent : {n : ℕ} → n ≡ lentRefusal reporters currencies file (ledgerFlaw l) → n ≢ 0
-      → fileOutcome (refused n) l a ≡ fileOf reporters currencies file l a
+module _ (tables : Tables) (file l a : List ℕ) where
+  pub file-lent : {n : ℕ} → n ≡ lentRefusal tables file (ledgerFlaw l) → n ≢ 0
+      → fileOutcome (refused n) l a ≡ fileOf tables file l a
   unfolding fileOf carriedOut
-  file-lent e ne = rw (reading-lent reporters currencies file (ledgerFlaw l) (length a) e ne)
+  file-lent e ne = rw (reading-lent tables file (ledgerFlaw l) (length a) e ne)
 
-  module _ (free : lentRefusal reporters currencies file (ledgerFlaw l) ≡ 0) {o : Opened} (q : openedAs o ≡ reportOf file) where
-    pub file-unopened : {n r : ℕ} → o ≡ Refused n → r ≡ refusalIn (openedAs o) → fileOutcome (refused r) l a ≡ fileOf reporters currencies file l a
+  module _ (free : lentRefusal tables file (ledgerFlaw l) ≡ 0) {o : Opened} (q : openedAs o ≡ reportOf file) where
+    pub file-unopened : {n r : ℕ} → o ≡ Refused n → r ≡ refusalIn (openedAs o) → fileOutcome (refused r) l a ≡ fileOf tables file l a
     unfolding fileOf carriedOut
-    file-unopened e h = rw (reading-on reporters currencies file (ledgerFlaw l) (length a) free, ← q, h, e)
+    file-unopened e h = rw (reading-on tables file (ledgerFlaw l) (length a) free, ← q, h, e)
 
     module _ {y : Layout} (e : o ≡ Report y) where
       abbrev found : reportOf file ≡ accepted y
       found = sym q ∙ ap openedAs e
 
-      pub file-full : length a < y .records * answerSize → fileOutcome (refused 12) l a ≡ fileOf reporters currencies file l a
+      pub file-full : length a < y .records * answerSize → fileOutcome (refused 12) l a ≡ fileOf tables file l a
       unfolding fileOf carriedOut
-      file-full h = rw (reading-on reporters currencies file (ledgerFlaw l) (length a) free, found, lt-ltb _ _ h)
+      file-full h = rw (reading-on tables file (ledgerFlaw l) (length a) free, found, lt-ltb _ _ h)
 
-      abbrev ok : Lent reporters currencies file (ledgerFlaw l)
-      ok = lent-ok reporters currencies file (ledgerFlaw l) free
+      abbrev ok : Lent tables file (ledgerFlaw l)
+      ok = lent-ok tables file (ledgerFlaw l) free
 
       abbrev records-of : List ℕ
       records-of = between file (y .first) (y .end)
 
-      pub file-open : y .records * answerSize ≤ length a → Open reporters currencies (senderOf file y) records-of 0 0 l a
-      file-open h = report-open reporters currencies file (ledgerFlaw l) ok y found l a (ok .kept) h
+      pub file-open : y .records * answerSize ≤ length a → Open tables (senderOf file y) records-of 0 0 l a
+      file-open h = report-open tables file (ledgerFlaw l) ok y found l a (ok .kept) h
 
       pub file-taken : {w : FileOutcome} → y .records * answerSize ≤ length a
-          → w ≡ carriedOut reporters currencies (accepted (callsFrom (senderOf file y) records-of 0)) l a → w ≡ fileOf reporters currencies file l a
+          → w ≡ carriedOut tables (accepted (callsFrom (senderOf file y) records-of 0)) l a → w ≡ fileOf tables file l a
       unfolding fileOf
       file-taken h t =
-          t ∙ rw (reading-on reporters currencies file (ledgerFlaw l) (length a) free, found, le-ltb _ _ h)
-          (ap (λ (calls : List Call). carriedOut reporters currencies (accepted calls) l a)
-          (report-calls reporters currencies file (ledgerFlaw l) ok y found))
+          t ∙ rw (reading-on tables file (ledgerFlaw l) (length a) free, found, le-ltb _ _ h)
+          (ap (λ (calls : List Call). carriedOut tables (accepted calls) l a)
+          (report-calls tables file (ledgerFlaw l) ok y found))

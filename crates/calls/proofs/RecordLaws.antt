@@ -11,7 +11,7 @@ use Rattle.frame.proofs.BoolLaws.{and-intro}
 use Rattle.text.specs.Class.{isRecordByte}
 use Rattle.text.specs.Bytes.{all}
 use Rattle.identifier.specs.Identifier.{nameUpTo}
-use Rattle.tables.specs.Tables.{tablesOf, tablesFlaw}
+use Rattle.tables.specs.Tables.{Tables, tablesFlaw}
 use Rattle.envelope.specs.Pieces.{begins}
 use Rattle.envelope.specs.Body.{crlf, Records, broken, records, withRecord, withByte, recordsOf}
 use Rattle.envelope.specs.Envelope.{listed}
@@ -55,20 +55,20 @@ each-formed (b ∷ c ∷ s) = go (isRecordByte b) (begins crlf (b ∷ c ∷ s)) 
     go false false e f g = tt
 
 -- with tables in order and a sender in form, the calls of such records are not refused
-module _ (reporters currencies sender : List ℕ) (lent : tablesFlaw (tablesOf reporters currencies) ≡ 0) (named : nameUpTo 8 sender ≡ true) where
+module _ (tables : Tables) (sender : List ℕ) (lent : tablesFlaw tables ≡ 0) (named : nameUpTo 8 sender ≡ true) where
   formed-admitted : (n : ℕ) → n ≤ recordLimit → (rs : List (List ℕ)) → EachFormed n (records rs)
-      → Admitted reporters currencies (map (called sender) rs)
+      → Admitted tables (map (called sender) rs)
   unfolding recordForm
   formed-admitted n h [] f = tt
   formed-admitted n h (r ∷ rs) f =
       let e = f .0 in
       let short : length r ≤ recordLimit = omega arith in
       let passes = call-passes (called sender r) named (and-intro _ _ (le-leb _ _ short) (f .1)) in
-      (sym (accepted-call reporters currencies (called sender r) 0 lent refl passes), formed-admitted n h rs (f .2))
+      (sym (accepted-call tables (called sender r) 0 lent refl passes), formed-admitted n h rs (f .2))
 
-  pub body-admitted : (body : List ℕ) → length body ≤ recordLimit → Admitted reporters currencies (callsFrom sender body 0)
+  pub body-admitted : (body : List ℕ) → length body ≤ recordLimit → Admitted tables (callsFrom sender body 0)
   body-admitted body h = go (recordsOf body) (each-formed body)
     where
-      go : (rs : Records) → EachFormed (length body) rs → Admitted reporters currencies (map (called sender) (listed rs))
+      go : (rs : Records) → EachFormed (length body) rs → Admitted tables (map (called sender) (listed rs))
       go broken f = tt
       go (records rs) f = formed-admitted (length body) h rs f

@@ -12,6 +12,7 @@ use Rattle.frame.specs.Parts.{put}
 use Rattle.frame.specs.Reply.{accepted}
 use Rattle.frame.proofs.PartLaws.{put-length}
 use Rattle.text.specs.declared.Class.the-variants.{RecordByte}
+use Rattle.tables.specs.Tables.{Tables}
 use Rattle.ledger.specs.Sound.{ledgerFlaw}
 use Rattle.answer.specs.declared.Answer.{Answer}
 use Rattle.answer.specs.Answer.{answerSize, answerBytes, answerPut}
@@ -59,21 +60,21 @@ module _ (body : List ℕ) (at next : ℕ) (more : at < length body) (e : lineEn
       ap (λ (m : ℕ). take m (drop at body)) n
 
 -- the call of a record that stands ready, and its answer, written as number k
-module _ (reporters currencies sender body : List ℕ) (at k : ℕ) (l a : List ℕ) (h : Ready reporters currencies sender body at k l a) where
+module _ (tables : Tables) (sender body : List ℕ) (at k : ℕ) (l a : List ℕ) (h : Ready tables sender body at k l a) where
   pub lent-admitted : {next : ℕ} → lineEnd body at ≡ EndsAt next
-      → refusalOf reporters currencies (called sender (take (next - 2 - at) (drop at body))) (ledgerFlaw l) ≡ 0
+      → refusalOf tables (called sender (take (next - 2 - at) (drop at body))) (ledgerFlaw l) ≡ 0
   lent-admitted {next} e =
-      ap (λ (r : List ℕ). refusalOf reporters currencies (called sender r) (ledgerFlaw l)) (record-lent body at next (h .more) e) ∙ h .admitted
+      ap (λ (r : List ℕ). refusalOf tables (called sender r) (ledgerFlaw l)) (record-lent body at next (h .more) e) ∙ h .admitted
 
   pub record-taken : {next : ℕ} (w : Answer) {m b : List ℕ} → lineEnd body at ≡ EndsAt next
-      → outcome (Answered w) m ≡ single (rules reporters currencies) (called sender (take (next - 2 - at) (drop at body))) l
-      → b ≡ answerPut (k * answerSize) w a → Taken reporters currencies sender body at k l a next m b
+      → outcome (Answered w) m ≡ single (rules tables) (called sender (take (next - 2 - at) (drop at body))) l
+      → b ≡ answerPut (k * answerSize) w a → Taken tables sender body at k l a next m b
   unfolding answerPut put answersIn
   record-taken {next} w {m} {b} e o p =
       let call : List ℕ → Call = called sender in
-      let done : outcome (Answered w) m ≡ single (rules reporters currencies) (call (recordAt body at)) l
-      = o ∙ ap (λ (r : List ℕ). single (rules reporters currencies) (call r) l) (record-lent body at next (h .more) e) in
-      let bytes : answerBytes w ≡ answersIn (single (rules reporters currencies) (call (recordAt body at)) l .reply ∷ [])
+      let done : outcome (Answered w) m ≡ single (rules tables) (call (recordAt body at)) l
+      = o ∙ ap (λ (r : List ℕ). single (rules tables) (call r) l) (record-lent body at next (h .more) e) in
+      let bytes : answerBytes w ≡ answersIn (single (rules tables) (call (recordAt body at)) l .reply ∷ [])
       = sym (append-nil (answerBytes w)) ∙ ap (λ (q : Outcome (List ℕ) (List ℕ)). answersIn (q .reply ∷ [])) done in
       record {
         line = e;
@@ -81,35 +82,35 @@ module _ (reporters currencies sender body : List ℕ) (at k : ℕ) (l a : List 
         buffer = p ∙ rw (le-leb _ _ (h .room), bytes);
       }
 
-module _ (reporters currencies : List ℕ) where
+module _ (tables : Tables) where
   -- what the calls that are left bring, after k answers
   abbrev pub outcomeFrom : ℕ → List Call → List ℕ → List ℕ → FileOutcome
   outcomeFrom k calls l a =
-      fileOutcome (accepted (k + length calls)) (storeAfter (rules reporters currencies) calls l)
-      (take (k * answerSize) a ++ (answersIn (replies (rules reporters currencies) calls l) ++ drop ((k + length calls) * answerSize) a))
+      fileOutcome (accepted (k + length calls)) (storeAfter (rules tables) calls l)
+      (take (k * answerSize) a ++ (answersIn (replies (rules tables) calls l) ++ drop ((k + length calls) * answerSize) a))
 
   -- the first of them is called, and its answer written
-  outcome-step : (k : ℕ) (c : Call) (cs : List Call) (l a : List ℕ) → refusalOf reporters currencies c (ledgerFlaw l) ≡ 0
-      → k * answerSize + answerSize ≤ length a → let o = single (rules reporters currencies) c l in
+  outcome-step : (k : ℕ) (c : Call) (cs : List Call) (l a : List ℕ) → refusalOf tables c (ledgerFlaw l) ≡ 0
+      → k * answerSize + answerSize ≤ length a → let o = single (rules tables) c l in
       outcomeFrom k (c ∷ cs) l a ≡ outcomeFrom (k + 1) cs (o .store) (put answerSize k (answersIn (o .reply ∷ [])) a)
   outcome-step k c cs l a free room =
-      let o = single (rules reporters currencies) c l in
+      let o = single (rules tables) c l in
       let w : List ℕ = answersIn (o .reply ∷ []) in
-      let ws : List ℕ = answersIn (replies (rules reporters currencies) cs (o .store)) in
-      let sized : length w ≡ answerSize = single-answered reporters currencies c l free in
+      let ws : List ℕ = answersIn (replies (rules tables) cs (o .store)) in
+      let sized : length w ≡ answerSize = single-answered tables c l free in
       let count : k + suc (length cs) ≡ k + 1 + length cs = omega arith in
-      let joined : answersIn (replies (rules reporters currencies) (c ∷ cs) l) ≡ w ++ ws
-      = answers-append (o .reply ∷ []) (replies (rules reporters currencies) cs (o .store)) in
+      let joined : answersIn (replies (rules tables) (c ∷ cs) l) ≡ w ++ ws
+      = answers-append (o .reply ∷ []) (replies (rules tables) cs (o .store)) in
       rw (count, joined, put-front k w a sized room, put-behind k w a sized room (length cs)) (simp append-assoc)
 
   module _ (sender body : List ℕ) where
     -- what holds as the records are taken: the calls from a place on are left, k are answered, and the end is as it was
     pub record Going (l₀ a₀ : List ℕ) (at k : ℕ) (l a : List ℕ) : Type 0 where
-      pub now : Open reporters currencies sender body at k l a
+      pub now : Open tables sender body at k l a
       pub long : length a ≡ length a₀
       pub same : outcomeFrom 0 (callsFrom sender body 0) l₀ a₀ ≡ outcomeFrom k (callsFrom sender body at) l a
 
-    pub going-start : (l a : List ℕ) → Open reporters currencies sender body 0 0 l a → Going l a 0 0 l a
+    pub going-start : (l a : List ℕ) → Open tables sender body 0 0 l a → Going l a 0 0 l a
     going-start l a h = record { now = h; long = refl; same = refl }
 
     -- a record in front of the others
@@ -135,11 +136,11 @@ module _ (reporters currencies : List ℕ) where
             let w = with-record (recordAt body at) (recordsOf (drop next body)) (sym on ∙ g .now .whole ∙ ap (λ (r : Records). records (listed r)) on) in
             (w .0, ap (λ (r : Records). map (called sender) (listed r)) on ∙ ap (map (called sender)) (w .1))
 
-        free : (refusalOf reporters currencies (called sender (recordAt body at)) (ledgerFlaw l) ≡ 0)
-            × Admitted reporters currencies (callsFrom sender body next)
+        free : (refusalOf tables (called sender (recordAt body at)) (ledgerFlaw l) ≡ 0)
+            × Admitted tables (callsFrom sender body next)
         free =
-            let h : Admitted reporters currencies (called sender (recordAt body at) ∷ callsFrom sender body next) = rw (split .1) at (g .now .admitted) in
-            (ap (refusalOf reporters currencies (called sender (recordAt body at))) (g .now .inOrder) ∙ h .0, h .1)
+            let h : Admitted tables (called sender (recordAt body at) ∷ callsFrom sender body next) = rw (split .1) at (g .now .admitted) in
+            (ap (refusalOf tables (called sender (recordAt body at))) (g .now .inOrder) ∙ h .0, h .1)
 
         room : k * answerSize + answerSize ≤ length a
         room =
@@ -147,27 +148,27 @@ module _ (reporters currencies : List ℕ) where
             let r = g .now .room in
             omega arith
 
-      pub going-ready : Ready reporters currencies sender body at k l a
+      pub going-ready : Ready tables sender body at k l a
       going-ready = go (lineEnd body at) refl
         where
-          go : (p : Piece) → lineEnd body at ≡ p → Ready reporters currencies sender body at k l a
+          go : (p : Piece) → lineEnd body at ≡ p → Ready tables sender body at k l a
           go (EndsAt next) e = record { more = more; line = line-there; admitted = free next e .0; room = room next e }
           go Missing e = absurd (line-there e)
 
-      pub going-step : (next : ℕ) (l' a' : List ℕ) → Taken reporters currencies sender body at k l a next l' a' → Going l₀ a₀ next (k + 1) l' a'
+      pub going-step : (next : ℕ) (l' a' : List ℕ) → Taken tables sender body at k l a next l' a' → Going l₀ a₀ next (k + 1) l' a'
       going-step next l' a' t =
           let call : Call = called sender (recordAt body at) in
           let e = t .line in
-          let sized = single-answered reporters currencies call l (free next e .0) in
+          let sized = single-answered tables call l (free next e .0) in
           let long : length a' ≡ length a
-          = ap length (t .buffer) ∙ put-length answerSize k (answersIn (single (rules reporters currencies) call l .reply ∷ [])) a (room next e) sized in
+          = ap length (t .buffer) ∙ put-length answerSize k (answersIn (single (rules tables) call l .reply ∷ [])) a (room next e) sized in
           let count : length (callsFrom sender body at) ≡ suc (length (callsFrom sender body next)) = ap length (split next e .1) in
           let r = g .now .room in
           record {
             now = record {
               whole = split next e .0;
               admitted = free next e .1;
-              inOrder = ap ledgerFlaw (t .store) ∙ after-in-order reporters currencies (call ∷ []) l (g .now .inOrder);
+              inOrder = ap ledgerFlaw (t .store) ∙ after-in-order tables (call ∷ []) l (g .now .inOrder);
               room = rw long (omega arith);
             };
             long = long ∙ g .long;
@@ -178,13 +179,13 @@ module _ (reporters currencies : List ℕ) where
 
     -- at the body's end all is done
     pub going-done : (l₀ a₀ : List ℕ) (at k : ℕ) (l a : List ℕ) → Going l₀ a₀ at k l a → length body ≤ at
-        → fileOutcome (accepted k) l a ≡ carriedOut reporters currencies (accepted (callsFrom sender body 0)) l₀ a₀
+        → fileOutcome (accepted k) l a ≡ carriedOut tables (accepted (callsFrom sender body 0)) l₀ a₀
     unfolding carriedOut answersIn
     going-done l₀ a₀ at k l a g h =
         let none : callsFrom sender body at ≡ [] = ap (λ (r : Records). map (called sender) (listed r)) (lines-end body at h) in
         let last : outcomeFrom k [] l a ≡ fileOutcome (accepted k) l a
         = (let e : k + 0 ≡ k = omega arith in rw e (ap (fileOutcome (accepted k) l) (take-append-drop (k * answerSize) a))) in
         let all : ℕ = length (callsFrom sender body 0) in
-        let first : carriedOut reporters currencies (accepted (callsFrom sender body 0)) l₀ a₀ ≡ outcomeFrom 0 (callsFrom sender body 0) l₀ a₀
+        let first : carriedOut tables (accepted (callsFrom sender body 0)) l₀ a₀ ≡ outcomeFrom 0 (callsFrom sender body 0) l₀ a₀
         = (let e : 0 + all ≡ all = omega arith in rw e) in
         sym (first ∙ g .same ∙ rw none last)

@@ -32,7 +32,7 @@ use Rattle.tables.specs.Reporters.{mailboxOf, mailboxForm, reporterForm, report
 use Rattle.tables.specs.Reporters.{hasCode, hasAddress, hasMailbox, rowByCode, rowByAddress}
 use Rattle.tables.specs.Currencies.{isSpecial, isMoney, currencyOk, currenciesOk}
 use Rattle.ledger.specs.Row.{rowSize}
-use Rattle.tables.specs.Tables.{tablesOf, tablesFlaw}
+use Rattle.tables.specs.Tables.{Tables, tablesFlaw}
 use Rattle.tables.proofs.FlawLaws.{tables-pass}
 use Rattle.ledger.specs.Sound.{compartmentSize, ledgerSize, bankCount, soundLedger, ledgerFlaw}
 use Rattle.ledger.specs.Lookup.{freeRow, rowByNumber, liveRow}
@@ -59,7 +59,7 @@ use Rattle.envelope.specs.Envelope.{headOf, tailOf, bodyStage, envelopeOf, repo
 use Rattle.calls.specs.Call.{Call, called, recordForm, refusalOf, checkedOf, rowOf, answerOf, stepFailures, stepAnswer, bookedAs, stepCompartment}
 use Rattle.calls.specs.Rules.{rules}
 use Rattle.calls.specs.Filing.{fileLimit, reportCalls, openedReading, readingOf, answersIn, fileOutcome, carriedOut, fileOf}
-use Rattle.calls.specs.Worked.{workedReporters, workedCurrencies, workedSender, emptyLedger, r1Answer, r5Answer, r1Row, blankAnswer, workedFile}
+use Rattle.calls.specs.Worked.{workedReporters, workedCurrencies, workedTables, workedSender, emptyLedger, r1Answer, r5Answer, r1Row, blankAnswer, workedFile}
 use Rattle.calls.proofs.CallLaws.{call-passes, accepted-call}
 use Rattle.calls.proofs.Demand3.{demand3}
 use Rattle.calls.proofs.ReadingLaws.{lent-none, reading-on}
@@ -73,15 +73,15 @@ pub worked-currencies : currenciesOk workedCurrencies ≡ true
 unfolding workedCurrencies currenciesOk currencyOk isSpecial every part all same orderOf
 worked-currencies = refl
 
-worked-tables : tablesFlaw (tablesOf workedReporters workedCurrencies) ≡ 0
-worked-tables = tables-pass (tablesOf workedReporters workedCurrencies) worked-reporters worked-currencies
+worked-tables : tablesFlaw workedTables ≡ 0
+worked-tables = tables-pass workedTables worked-reporters worked-currencies
 
 pub empty-sound : soundLedger emptyLedger ≡ true
 unfolding emptyLedger
 empty-sound = empty-ledger ledgerSize refl
 
-pub demand3-met : (calls : List Call) → Isolated (rules workedReporters workedCurrencies) calls emptyLedger
-demand3-met calls = demand3 workedReporters workedCurrencies calls emptyLedger empty-sound
+pub demand3-met : (calls : List Call) → Isolated (rules workedTables) calls emptyLedger
+demand3-met calls = demand3 workedTables calls emptyLedger empty-sound
 
 -- of two lists of two
 second : {A : Type 0} {a b c d : A} → a ∷ b ∷ [] ≡ c ∷ d ∷ [] → b ≡ d
@@ -89,7 +89,7 @@ second e = head-eq-of-cons-eq (tail-eq-of-cons-eq e)
 
 -- a record called singly by the worked sender on the all-zero ledger
 abbrev calledAlone : List ℕ → Outcome (List ℕ) (List ℕ)
-calledAlone s = single (rules workedReporters workedCurrencies) (called workedSender s) emptyLedger
+calledAlone s = single (rules workedTables) (called workedSender s) emptyLedger
 
 abbrev zeros : List ℕ
 zeros = replicate compartmentSize 0
@@ -99,29 +99,29 @@ unfolding emptyLedger
 zeros-part = part-replicate compartmentSize 0 ledgerSize 0 (omega arith)
 
 -- a record in form is not refused there
-not-refused : (s : List ℕ) → recordForm s ≡ true → refusalOf workedReporters workedCurrencies (called workedSender s) (ledgerFlaw emptyLedger) ≡ 0
+not-refused : (s : List ℕ) → recordForm s ≡ true → refusalOf workedTables (called workedSender s) (ledgerFlaw emptyLedger) ≡ 0
 unfolding nameUpTo all
 not-refused s form =
     let call : Call = called workedSender s in
-    sym (accepted-call workedReporters workedCurrencies call (ledgerFlaw emptyLedger) worked-tables (flaw-none emptyLedger empty-sound)
+    sym (accepted-call workedTables call (ledgerFlaw emptyLedger) worked-tables (flaw-none emptyLedger empty-sound)
     (call-passes call refl form))
 
 -- one that is in form and passes the sender check for row 0 is judged and booked on a compartment of zeros
-on-zeros : (s : List ℕ) → recordForm s ≡ true → rowOf (checkedOf workedReporters (called workedSender s)) ≡ 0
+on-zeros : (s : List ℕ) → recordForm s ≡ true → rowOf (checkedOf workedTables (called workedSender s)) ≡ 0
     → calledAlone s
     ≡ record {
-      reply = accepted (answerBytes (stepAnswer workedReporters workedCurrencies 0 s zeros));
-      store = put compartmentSize 0 (stepCompartment workedReporters workedCurrencies 0 s zeros) emptyLedger;
+      reply = accepted (answerBytes (stepAnswer workedTables 0 s zeros));
+      store = put compartmentSize 0 (stepCompartment workedTables 0 s zeros) emptyLedger;
     }
 on-zeros s form row =
-    single-step (rules workedReporters workedCurrencies) (called workedSender s) emptyLedger 0 (not-refused s form) row (omega arith)
+    single-step (rules workedTables) (called workedSender s) emptyLedger 0 (not-refused s form) row (omega arith)
     ∙ (λ i. record {
-      reply = accepted (answerBytes (stepAnswer workedReporters workedCurrencies (row i) s (zeros-part i)));
-      store = put compartmentSize 0 (stepCompartment workedReporters workedCurrencies (row i) s (zeros-part i)) emptyLedger;
+      reply = accepted (answerBytes (stepAnswer workedTables (row i) s (zeros-part i)));
+      store = put compartmentSize 0 (stepCompartment workedTables (row i) s (zeros-part i)) emptyLedger;
     })
 
 -- what the step computes of R1 and R5 on a compartment of zeros
-passed-rows : map (λ s. rowOf (checkedOf workedReporters (called workedSender s))) (r1 ∷ r5 ∷ []) ≡ 0 ∷ 0 ∷ []
+passed-rows : map (λ s. rowOf (checkedOf workedTables (called workedSender s))) (r1 ∷ r5 ∷ []) ≡ 0 ∷ 0 ∷ []
 unfolding workedRecord workedReporters checkedOf senderCheck senderTests reporterTests reporterRow rowByCode rowByAddress hasCode hasMailbox mailboxOf isWhole
     semicolonsFrom fieldStart fieldEnd fieldPlace fieldOf letter same positionOf part least added addedFrom holds
 passed-rows = refl
@@ -131,7 +131,7 @@ unfolding workedRecord recordForm all
 in-form = refl
 
 abbrev stepped : List ℕ → List ℕ × List ℕ
-stepped s = (answerBytes (stepAnswer workedReporters workedCurrencies 0 s zeros), stepCompartment workedReporters workedCurrencies 0 s zeros)
+stepped s = (answerBytes (stepAnswer workedTables 0 s zeros), stepCompartment workedTables 0 s zeros)
 
 steps : map stepped (r1 ∷ r5 ∷ []) ≡ (r1Answer, r1Row ++ replicate (compartmentSize - rowSize) 0) ∷ (r5Answer, zeros) ∷ []
 unfolding workedRecord workedReporters workedCurrencies r1Answer r5Answer r1Row least part put all same positionOf decimalOf decimalAt wholeOnly wholeAndPart
@@ -146,7 +146,7 @@ steps = refl
 
 -- R1 is booked in row 0 of compartment 0, and the rest of the ledger stays; R5 is answered with its set, and nothing is booked
 pub worked :
-    map (λ r. single (rules workedReporters workedCurrencies) (called workedSender r) emptyLedger) (r1 ∷ r5 ∷ [])
+    map (λ r. single (rules workedTables) (called workedSender r) emptyLedger) (r1 ∷ r5 ∷ [])
     ≡ record { reply = accepted r1Answer; store = put compartmentSize 0 (r1Row ++ replicate (compartmentSize - rowSize) 0) emptyLedger }
     ∷ record { reply = accepted r5Answer; store = emptyLedger }
     ∷ []
@@ -173,25 +173,25 @@ module _ (room : ℕ) (one : answerSize ≤ room) where
 blank-called : calledAlone [] ≡ record { reply = accepted blankAnswer; store = emptyLedger }
 unfolding blankAnswer recordForm all lowBytes checkedOf senderCheck senderTests isWhole semicolonsFrom added addedFrom holds answerOf codes codeAt
     statusAt trailingZeros answerBytes
-blank-called = single-stranger (rules workedReporters workedCurrencies) (called workedSender []) emptyLedger (not-refused [] refl) (omega arith)
+blank-called = single-stranger (rules workedTables) (called workedSender []) emptyLedger (not-refused [] refl) (omega arith)
 
 -- The file call: a body of one CR LF has no record; one of two holds one, answered 9001. Nothing is booked, and the rest of the buffer stays.
 pub worked-bodies : (a : List ℕ) → answerSize ≤ length a
-    → map (λ body. fileOf workedReporters workedCurrencies (workedFile body) emptyLedger a) (crlf ∷ (crlf ++ crlf) ∷ [])
+    → map (λ body. fileOf workedTables (workedFile body) emptyLedger a) (crlf ∷ (crlf ++ crlf) ∷ [])
     ≡ fileOutcome (accepted 0) emptyLedger a ∷ fileOutcome (accepted 1) emptyLedger (blankAnswer ++ drop answerSize a) ∷ []
 unfolding workedFile fileOf carriedOut answersIn
 worked-bodies a one =
     let both = opened (length a) one in
-    (λ i. carriedOut workedReporters workedCurrencies ((read crlf (leb-true _ _ refl) ∙ head-eq-of-cons-eq both) i) emptyLedger a
-    ∷ carriedOut workedReporters workedCurrencies ((read (crlf ++ crlf) (leb-true _ _ refl) ∙ second both) i) emptyLedger a ∷ [])
+    (λ i. carriedOut workedTables ((read crlf (leb-true _ _ refl) ∙ head-eq-of-cons-eq both) i) emptyLedger a
+    ∷ carriedOut workedTables ((read (crlf ++ crlf) (leb-true _ _ refl) ∙ second both) i) emptyLedger a ∷ [])
     ∙ (λ i. fileOutcome (accepted 0) emptyLedger a
     ∷ fileOutcome (accepted 1) (blank-called i .store) (answersIn (blank-called i .reply ∷ []) ++ drop answerSize a) ∷ [])
     ∙ rw append-nil refl
   where
     read : (body : List ℕ) → length (workedFile body) ≤ fileLimit
-        → readingOf workedReporters workedCurrencies (workedFile body) (length a) (ledgerFlaw emptyLedger)
+        → readingOf workedTables (workedFile body) (length a) (ledgerFlaw emptyLedger)
         ≡ openedReading (workedFile body) (length a) (reportOf (workedFile body))
     read body short =
-        reading-on workedReporters workedCurrencies (workedFile body) (ledgerFlaw emptyLedger) (length a)
-        (sym (lent-none workedReporters workedCurrencies (workedFile body) (ledgerFlaw emptyLedger) short worked-tables
+        reading-on workedTables (workedFile body) (ledgerFlaw emptyLedger) (length a)
+        (sym (lent-none workedTables (workedFile body) (ledgerFlaw emptyLedger) short worked-tables
         (flaw-none emptyLedger empty-sound)))

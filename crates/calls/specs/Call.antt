@@ -15,7 +15,7 @@ use Rattle.failures.specs.Failures.{noFailure, firstPlace}
 use Rattle.failures.specs.Codes.{codeAt}
 use Rattle.fields.specs.Fields.{isWhole, fieldOf}
 use Rattle.fields.specs.Forms.{letter}
-use Rattle.tables.specs.Tables.{tablesOf, tablesFlaw}
+use Rattle.tables.specs.Tables.{Tables, tablesFlaw}
 use Rattle.tables.specs.Currencies.{isMoney}
 use Rattle.booking.specs.Booking.{booked}
 use Rattle.sender.specs.declared.Checked.{Checked}
@@ -54,13 +54,13 @@ callFlaw call =
     ∷ [])
 
 -- the number by which a call is refused: 2, 3, 4, 13, 14, the first that applies; 0 for none. The ledger's own number is given
-unfoldable pub refusalOf : List ℕ → List ℕ → Call → ℕ → ℕ
-refusalOf reporters currencies call held = firstOf (tablesFlaw (tablesOf reporters currencies) ∷ held ∷ callFlaw call ∷ [])
+unfoldable pub refusalOf : Tables → Call → ℕ → ℕ
+refusalOf tables call held = firstOf (tablesFlaw tables ∷ held ∷ callFlaw call ∷ [])
 
 -- the sender check of a call's record
-unfoldable pub checkedOf : List ℕ → Call → Checked
-checkedOf reporters call =
-    senderCheck reporters (call .sender) (isWhole (call .«record»)) (fieldOf (call .«record») 1) (fieldOf (call .«record») 2)
+unfoldable pub checkedOf : Tables → Call → Checked
+checkedOf tables call =
+    senderCheck (tables .reporters) (call .sender) (isWhole (call .«record»)) (fieldOf (call .«record») 1) (fieldOf (call .«record») 2)
 
 -- the row for which the record passes it, 255 for none; and the failures of places 0 to 6
 abbrev pub rowOf : Checked → ℕ
@@ -89,12 +89,12 @@ bookedAs free named «record» c =
     booked free (fieldOf «record» 39) (valueOf (decimalOf 15 4 (fieldOf «record» 22))) (letter (fieldOf «record» 7)) named c
 
 -- A record that passes the sender check for a row, on that bank's compartment: its failures, its answer, and the compartment afterwards.
-module _ (reporters currencies : List ℕ) (row : ℕ) («record» c : List ℕ) where
+module _ (tables : Tables) (row : ℕ) («record» c : List ℕ) where
   abbrev pub foundRows : Booking
   foundRows = bookingOf c (fieldOf «record» 16) (fieldOf «record» 39)
 
   unfoldable pub stepFailures : Failures
-  stepFailures = failuresFrom7 reporters (isMoney currencies) row (fieldOf «record») c
+  stepFailures = failuresFrom7 (tables .reporters) (isMoney (tables .currencies)) row (fieldOf «record») c
 
   unfoldable pub stepAnswer : Answer
   stepAnswer = answerOf stepFailures row (cond (eqb (stepFailures .bits) 0) (foundRows .free) noRow) «record»

@@ -7,7 +7,7 @@ use lib.Dec.{leb, eqb, ltb}
 use lib.ListN.{length, drop}
 use Rattle.frame.specs.Reply.{Reply, refused, accepted, unless, firstOf}
 use Rattle.frame.specs.Isolation.{replies, storeAfter}
-use Rattle.tables.specs.Tables.{tablesOf, tablesFlaw}
+use Rattle.tables.specs.Tables.{Tables, tablesFlaw}
 use Rattle.ledger.specs.Sound.{ledgerFlaw}
 use Rattle.answer.specs.Answer.{answerSize}
 use Rattle.envelope.specs.declared.Layout.{Layout}
@@ -20,9 +20,9 @@ abbrev pub fileLimit : ℕ
 fileLimit = 32768
 
 -- the number by which a file call is refused for what it is lent: 1, 2, 3, 4, the first that applies; 0 for none. The ledger's own number is given
-unfoldable pub lentRefusal : List ℕ → List ℕ → List ℕ → ℕ → ℕ
-lentRefusal reporters currencies file held =
-    firstOf (unless (leb (length file) fileLimit) 1 ∷ tablesFlaw (tablesOf reporters currencies) ∷ held ∷ [])
+unfoldable pub lentRefusal : Tables → List ℕ → ℕ → ℕ
+lentRefusal tables file held =
+    firstOf (unless (leb (length file) fileLimit) 1 ∷ tablesFlaw tables ∷ held ∷ [])
 
 -- a report's records called singly, by its sender, in file order
 unfoldable pub reportCalls : List ℕ → Layout → List Call
@@ -34,9 +34,9 @@ openedReading file room (refused n) = refused n
 openedReading file room (accepted l) = cond (ltb room (l .records * answerSize)) (refused 12) (accepted (reportCalls file l))
 
 -- what a file call comes to before any record is judged: 1 to 4, then the envelope and the buffer, the first that applies
-unfoldable pub readingOf : List ℕ → List ℕ → List ℕ → ℕ → ℕ → Reply (List Call)
-readingOf reporters currencies file room held =
-    let n = lentRefusal reporters currencies file held in cond (eqb n 0) (openedReading file room (reportOf file)) (refused n)
+unfoldable pub readingOf : Tables → List ℕ → ℕ → ℕ → Reply (List Call)
+readingOf tables file room held =
+    let n = lentRefusal tables file held in cond (eqb n 0) (openedReading file room (reportOf file)) (refused n)
 
 -- the answers of replies, one after another
 unfoldable pub answersIn : List (Reply (List ℕ)) → List ℕ
@@ -53,14 +53,14 @@ pub record FileOutcome : Type 0 where
 abbrev pub fileOutcome : Reply ℕ → List ℕ → List ℕ → FileOutcome
 fileOutcome r l a = record { reply = r; store = l; buffer = a }
 
-module _ (reporters currencies : List ℕ) where
+module _ (tables : Tables) where
   -- refused: nothing is changed. Accepted: the count of records; the ledger and the answers are those of its calls, from the buffer's start; the rest stays
   unfoldable pub carriedOut : Reply (List Call) → List ℕ → List ℕ → FileOutcome
   carriedOut (refused n) l a = fileOutcome (refused n) l a
   carriedOut (accepted calls) l a =
-      fileOutcome (accepted (length calls)) (storeAfter (rules reporters currencies) calls l)
-      (answersIn (replies (rules reporters currencies) calls l) ++ drop (length calls * answerSize) a)
+      fileOutcome (accepted (length calls)) (storeAfter (rules tables) calls l)
+      (answersIn (replies (rules tables) calls l) ++ drop (length calls * answerSize) a)
 
   -- the file call
   unfoldable pub fileOf : List ℕ → List ℕ → List ℕ → FileOutcome
-  fileOf file l a = carriedOut (readingOf reporters currencies file (length a) (ledgerFlaw l)) l a
+  fileOf file l a = carriedOut (readingOf tables file (length a) (ledgerFlaw l)) l a

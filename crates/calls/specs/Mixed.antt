@@ -9,6 +9,7 @@ use lib.ListN.{length, take}
 use Rattle.frame.specs.Reply.{Reply, refused, accepted, refusalIn}
 use Rattle.frame.specs.Isolation.{Isolated, single, replies, storeAfter}
 use Rattle.text.specs.Bytes.{all}
+use Rattle.tables.specs.Tables.{Tables}
 use Rattle.answer.specs.Answer.{answerSize}
 use Rattle.calls.specs.Call.{Call, refusalOf}
 use Rattle.calls.specs.Rules.{rules}
@@ -36,19 +37,19 @@ abbrev pub manyAnswers : Reply (List Call) → Reply ℕ
 manyAnswers (refused n) = refused n
 manyAnswers (accepted calls) = accepted (length calls)
 
-module _ (reporters currencies : List ℕ) where
+module _ (tables : Tables) where
   -- what a request leaves, answers and returns, on the ledger as it then is
   abbrev pub requestStore : Request → List ℕ → List ℕ
-  requestStore (record-call c) l = single (rules reporters currencies) c l .store
-  requestStore (file-call file a) l = fileOf reporters currencies file l a .store
+  requestStore (record-call c) l = single (rules tables) c l .store
+  requestStore (file-call file a) l = fileOf tables file l a .store
 
   abbrev pub requestAnswers : Request → List ℕ → List ℕ
-  requestAnswers (record-call c) l = answersIn (single (rules reporters currencies) c l .reply ∷ [])
-  requestAnswers (file-call file a) l = answersOf (fileOf reporters currencies file l a)
+  requestAnswers (record-call c) l = answersIn (single (rules tables) c l .reply ∷ [])
+  requestAnswers (file-call file a) l = answersOf (fileOf tables file l a)
 
   abbrev pub requestReply : Request → List ℕ → Reply ℕ
-  requestReply (record-call c) l = oneAnswer (single (rules reporters currencies) c l .reply)
-  requestReply (file-call file a) l = fileOf reporters currencies file l a .reply
+  requestReply (record-call c) l = oneAnswer (single (rules tables) c l .reply)
+  requestReply (file-call file a) l = fileOf tables file l a .reply
 
   -- a list of requests, each on the ledger that the last one left
   abbrev pub storeOver : List Request → List ℕ → List ℕ
@@ -70,7 +71,7 @@ module _ (reporters currencies : List ℕ) where
 
   abbrev pub requestCalls : Request → List Call
   requestCalls (record-call c) = c ∷ []
-  requestCalls (file-call file a) = callsOf (readingOf reporters currencies file (length a) 0)
+  requestCalls (file-call file a) = callsOf (readingOf tables file (length a) 0)
 
   abbrev pub callsOver : List Request → List Call
   callsOver [] = []
@@ -78,14 +79,14 @@ module _ (reporters currencies : List ℕ) where
 
   -- what a request returns on every sound ledger
   abbrev pub soundReply : Request → Reply ℕ
-  soundReply (record-call c) = let n = refusalOf reporters currencies c 0 in cond (eqb n 0) (accepted 1) (refused n)
-  soundReply (file-call file a) = manyAnswers (readingOf reporters currencies file (length a) 0)
+  soundReply (record-call c) = let n = refusalOf tables c 0 in cond (eqb n 0) (accepted 1) (refused n)
+  soundReply (file-call file a) = manyAnswers (readingOf tables file (length a) 0)
 
   -- The claim: the ledger and the answers are those of the single-record calls that the requests stand for, and demand 3 holds of these; each request
   -- returns what it returns on every sound ledger, and 4 is never among the refusals.
   pub record FilesIsolated (qs : List Request) (l : List ℕ) : Type 0 where
-    pub sameStore : storeOver qs l ≡ storeAfter (rules reporters currencies) (callsOver qs) l
-    pub sameAnswers : answersOver qs l ≡ answersIn (replies (rules reporters currencies) (callsOver qs) l)
+    pub sameStore : storeOver qs l ≡ storeAfter (rules tables) (callsOver qs) l
+    pub sameAnswers : answersOver qs l ≡ answersIn (replies (rules tables) (callsOver qs) l)
     pub sameReplies : repliesOver qs l ≡ map soundReply qs
     pub neverFour : all (λ n. not (eqb n 4)) (map refusalIn (repliesOver qs l)) ≡ true
-    pub isolated : Isolated (rules reporters currencies) (callsOver qs) l
+    pub isolated : Isolated (rules tables) (callsOver qs) l

@@ -1,16 +1,17 @@
--- The rules of document 01 as the theorem on isolation reads them: what a list of single-record calls is run under, for a pair of tables.
+-- The rules of document 01 as the theorem on isolation reads them: what a list of single-record calls is run under, for the lent tables.
 -- The store is the ledger, and a bank's part of it is its compartment.
 -- Assumes nothing.
 use Prim.Native.Nat.{ℕ}
 use mathlib.Core.List.{List}
 use Rattle.frame.specs.Isolation.{Rules}
 use Rattle.frame.specs.Parts.{part, put}
+use Rattle.tables.specs.Tables.{Tables}
 use Rattle.ledger.specs.Sound.{bankCount, compartmentSize, ledgerFlaw}
 use Rattle.answer.specs.Answer.{answerBytes}
 use Rattle.calls.specs.Call.{Call, noRow, refusalOf, checkedOf, rowOf, failedOf, noReporter, answerOf, stepAnswer, stepCompartment}
 
-abbrev pub rules : List ℕ → List ℕ → Rules
-rules reporters currencies = record {
+abbrev pub rules : Tables → Rules
+rules tables = record {
   Call = Call;
   Answer = List ℕ;
   Store = List ℕ;
@@ -19,9 +20,9 @@ rules reporters currencies = record {
   own = part compartmentSize;
   keep = put compartmentSize;
   flaw = ledgerFlaw;
-  refusal = refusalOf reporters currencies;
-  bank = λ call. rowOf (checkedOf reporters call);
-  stranger = λ call. answerBytes (answerOf (failedOf (checkedOf reporters call)) noReporter noRow (call .«record»));
-  judge = λ call c. answerBytes (stepAnswer reporters currencies (rowOf (checkedOf reporters call)) (call .«record») c);
-  next = λ call c. stepCompartment reporters currencies (rowOf (checkedOf reporters call)) (call .«record») c;
+  refusal = refusalOf tables;
+  bank = λ call. rowOf (checkedOf tables call);
+  stranger = λ call. answerBytes (answerOf (failedOf (checkedOf tables call)) noReporter noRow (call .«record»));
+  judge = λ call c. answerBytes (stepAnswer tables (rowOf (checkedOf tables call)) (call .«record») c);
+  next = λ call c. stepCompartment tables (rowOf (checkedOf tables call)) (call .«record») c;
 }

@@ -7,6 +7,7 @@ use mathlib.Core.List.{List, [], _∷_, _++_}
 use lib.ListN.{replicate}
 use Rattle.text.specs.Number.{lowBytes}
 use Rattle.text.specs.Text.{bytes}
+use Rattle.tables.specs.Tables.{Tables, tablesOf}
 use Rattle.ledger.specs.Sound.{ledgerSize}
 
 -- a row of the reporters table: 24 bytes, then zeros
@@ -18,6 +19,9 @@ workedReporters = workedRow "98001AAAAATW1XXXMBONE   " ++ (workedRow "98002BBBBA
 
 unfoldable pub workedCurrencies : List ℕ
 workedCurrencies = bytes "CHFEURUSD"
+
+abbrev pub workedTables : Tables
+workedTables = tablesOf workedReporters workedCurrencies
 
 abbrev pub workedSender : List ℕ
 workedSender = bytes "MBONE"

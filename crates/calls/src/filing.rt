@@ -1,6 +1,7 @@
 // The file call: the records of a report, called singly by its sender.
 ghost use mathlib.Core.Path.{_≡_};
 ghost use Rattle.frame.specs.Reply.{accepted, refusalIn};
+ghost use Rattle.tables.specs.Tables.{tablesOf};
 ghost use Rattle.ledger.specs.Sound.{ledgerFlaw};
 ghost use Rattle.envelope.specs.Envelope.{openedAs};
 ghost use Rattle.calls.specs.Replied.{filedAs};
@@ -27,7 +28,7 @@ fn lent_refusal<'a>(
     currencies: &'a [u8],
     ledger: &'a [u8],
 ) -> u8
-    ensures { λ r. ⌜ r ≡ lentRefusal (now (reporters .entry)) (now (currencies .entry)) (now (file .entry)) (ledgerFlaw (now (ledger .entry))) ⌝ }
+    ensures { λ r. ⌜ r ≡ lentRefusal (tablesOf (now (reporters .entry)) (now (currencies .entry))) (now (file .entry)) (ledgerFlaw (now (ledger .entry))) ⌝ }
 {
     if FILE_LIMIT < file.len() {
         return 1;
@@ -50,8 +51,8 @@ fn take_record<'a>(
     answers: &mut [u8],
     k: usize,
 ) -> usize
-    requires { ⌜ Ready (now reporters) (now currencies) (now sender) (now body) at k (now ledger) (now answers) ⌝ }
-    ensures { λ r. ⌜ Taken (now (reporters .entry)) (now (currencies .entry)) (now (sender .entry)) (now (body .entry)) at k (now (ledger .entry))
+    requires { ⌜ Ready (tablesOf (now reporters) (now currencies)) (now sender) (now body) at k (now ledger) (now answers) ⌝ }
+    ensures { λ r. ⌜ Taken (tablesOf (now (reporters .entry)) (now (currencies .entry))) (now (sender .entry)) (now (body .entry)) at k (now (ledger .entry))
         (now (answers .entry)) r (now (ledger .exit)) (now (answers .exit)) ⌝ }
 {
     let Piece::EndsAt(next) = envelope::line_end(body, at) else {
@@ -72,9 +73,10 @@ fn take_records<'a>(
     body: &'a [u8],
     answers: &mut [u8],
 ) -> usize
-    requires { ⌜ Open (now reporters) (now currencies) (now sender) (now body) 0 0 (now ledger) (now answers) ⌝ }
-    ensures { λ r. ⌜ fileOutcome (accepted r) (now (ledger .exit)) (now (answers .exit)) ≡ carriedOut (now (reporters .entry)) (now (currencies .entry))
-        (accepted (callsFrom (now (sender .entry)) (now (body .entry)) 0)) (now (ledger .entry)) (now (answers .entry)) ⌝ }
+    requires { ⌜ Open (tablesOf (now reporters) (now currencies)) (now sender) (now body) 0 0 (now ledger) (now answers) ⌝ }
+    ensures { λ r. ⌜ fileOutcome (accepted r) (now (ledger .exit)) (now (answers .exit))
+        ≡ carriedOut (tablesOf (now (reporters .entry)) (now (currencies .entry))) (accepted (callsFrom (now (sender .entry)) (now (body .entry)) 0))
+        (now (ledger .entry)) (now (answers .entry)) ⌝ }
 {
     let mut at: usize = 0;
     let mut k: usize = 0;
@@ -103,8 +105,8 @@ pub fn file_call<'a>(
     ledger: &mut [u8],
     answers: &mut [u8],
 ) -> Filed
-    ensures { λ r. ⌜ fileOutcome (filedAs r) (now (ledger .exit)) (now (answers .exit)) ≡ fileOf (now (reporters .entry)) (now (currencies .entry))
-        (now (file .entry)) (now (ledger .entry)) (now (answers .entry)) ⌝ }
+    ensures { λ r. ⌜ fileOutcome (filedAs r) (now (ledger .exit)) (now (answers .exit))
+        ≡ fileOf (tablesOf (now (reporters .entry)) (now (currencies .entry))) (now (file .entry)) (now (ledger .entry)) (now (answers .entry)) ⌝ }
 {
     let n = lent_refusal(file, reporters, currencies, ledger);
     if n != 0 {

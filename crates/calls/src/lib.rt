@@ -7,6 +7,7 @@ ghost use Rattle.frame.specs.Isolation.{single};
 ghost use Rattle.decimal.specs.Decimal.{decimalOf, valueOf};
 ghost use Rattle.fields.specs.Fields.{stopsOf};
 ghost use Rattle.tables.specs.Currencies.{currenciesOk};
+ghost use Rattle.tables.specs.Tables.{tablesOf};
 ghost use Rattle.ledger.specs.Sound.{bankCount, ledgerFlaw};
 ghost use Rattle.calls.specs.Call.{recordLimit, noReporter, noRow, failedOf, recordForm, callFlaw, refusalOf, called};
 ghost use Rattle.calls.specs.Call.{answerOf, bookedAs, stepAnswer, stepCompartment};
@@ -64,7 +65,7 @@ pub fn refusal<'a>(
     sender: &'a [u8],
     record: &'a [u8],
 ) -> u8
-    ensures { λ r. ⌜ r ≡ refusalOf (now (reporters .entry)) (now (currencies .entry)) (called (now (sender .entry)) (now («record» .entry)))
+    ensures { λ r. ⌜ r ≡ refusalOf (tablesOf (now (reporters .entry)) (now (currencies .entry))) (called (now (sender .entry)) (now («record» .entry)))
         (ledgerFlaw (now (ledger .entry))) ⌝ }
 {
     let lent = tables::flaw(reporters, currencies);
@@ -129,8 +130,9 @@ fn step<'a>(
     stops: &'a [usize; 39],
 ) -> Answer
     requires { ⌜ (row < 256) × (length (now «record») ≤ recordLimit) × (now stops ≡ stopsOf (now «record»)) × (currenciesOk (now currencies) ≡ true) ⌝ }
-    ensures { λ r. ⌜ r ≡ stepAnswer (now (reporters .entry)) (now (currencies .entry)) row (now («record» .entry)) (now (c .entry)) ⌝ }
-    ensures { λ r. ⌜ now (c .exit) ≡ stepCompartment (now (reporters .entry)) (now (currencies .entry)) row (now («record» .entry)) (now (c .entry)) ⌝ }
+    ensures { λ r. ⌜ r ≡ stepAnswer (tablesOf (now (reporters .entry)) (now (currencies .entry))) row (now («record» .entry)) (now (c .entry)) ⌝ }
+    ensures { λ r. ⌜ now (c .exit) ≡ stepCompartment (tablesOf (now (reporters .entry)) (now (currencies .entry))) row (now («record» .entry))
+        (now (c .entry)) ⌝ }
 {
     let judged = checks::judge(reporters, currencies, row, record, stops);
     if judged.bits != 0 {
@@ -165,8 +167,8 @@ pub(crate) fn admitted<'a>(
     sender: &'a [u8],
     record: &'a [u8],
 ) -> Answer
-    requires { ⌜ refusalOf (now reporters) (now currencies) (called (now sender) (now «record»)) (ledgerFlaw (now ledger)) ≡ 0 ⌝ }
-    ensures { λ r. ⌜ outcome (Answered r) (now (ledger .exit)) ≡ single (rules (now (reporters .entry)) (now (currencies .entry)))
+    requires { ⌜ refusalOf (tablesOf (now reporters) (now currencies)) (called (now sender) (now «record»)) (ledgerFlaw (now ledger)) ≡ 0 ⌝ }
+    ensures { λ r. ⌜ outcome (Answered r) (now (ledger .exit)) ≡ single (rules (tablesOf (now (reporters .entry)) (now (currencies .entry))))
         (called (now (sender .entry)) (now («record» .entry))) (now (ledger .entry)) ⌝ }
 {
     let stops = fields::index(record);
@@ -201,7 +203,7 @@ pub fn record_call<'a>(
     sender: &'a [u8],
     record: &'a [u8],
 ) -> Replied
-    ensures { λ r. ⌜ outcome r (now (ledger .exit)) ≡ single (rules (now (reporters .entry)) (now (currencies .entry)))
+    ensures { λ r. ⌜ outcome r (now (ledger .exit)) ≡ single (rules (tablesOf (now (reporters .entry)) (now (currencies .entry))))
         (called (now (sender .entry)) (now («record» .entry))) (now (ledger .entry)) ⌝ }
 {
     let n = refusal(reporters, currencies, ledger, sender, record);

@@ -12,6 +12,7 @@ use lib.ListN.{length}
 use Rattle.frame.specs.Reply.{Reply, refused, accepted}
 use Rattle.frame.specs.Isolation.{Outcome, single}
 use Rattle.frame.proofs.Isolation.{single-refused, single-stranger, single-step}
+use Rattle.tables.specs.Tables.{Tables}
 use Rattle.ledger.specs.Sound.{bankCount, ledgerFlaw}
 use Rattle.answer.specs.declared.Answer.{Answer}
 use Rattle.answer.specs.Answer.{answerSize, answerBytes, answerPut}
@@ -32,35 +33,35 @@ short-refused e h q = q ∙ e ∙ rw (ne-eqb _ 0 (λ z. h (e ∙ z))) refl
 pub short-free : {n r : ℕ} → n ≡ r → n ≡ 0 → 12 ≡ shortNumber r
 short-free e z = rw (eq-eqb _ 0 (sym e ∙ z)) refl
 
-module _ (reporters currencies sender s l : List ℕ) where
+module _ (tables : Tables) (sender s l : List ℕ) where
   abbrev call : Call
   call = called sender s
 
   abbrev number : ℕ
-  number = refusalOf reporters currencies call (ledgerFlaw l)
+  number = refusalOf tables call (ledgerFlaw l)
 
   abbrev done : Outcome (List ℕ) (List ℕ)
-  done = single (rules reporters currencies) call l
+  done = single (rules tables) call l
 
   -- a call that is not refused is answered, and a refused one leaves the ledger
   pub is-answered : number ≡ 0 → (w : List ℕ) × (done .reply ≡ accepted w)
-  is-answered e = go (ltb (rowOf (checkedOf reporters call)) bankCount) refl
+  is-answered e = go (ltb (rowOf (checkedOf tables call)) bankCount) refl
     where
-      go : (b : Bool) → ltb (rowOf (checkedOf reporters call)) bankCount ≡ b → (w : List ℕ) × (done .reply ≡ accepted w)
+      go : (b : Bool) → ltb (rowOf (checkedOf tables call)) bankCount ≡ b → (w : List ℕ) × (done .reply ≡ accepted w)
       go true h = (
         _,
-        ap (λ (o : Outcome (List ℕ) (List ℕ)). o .reply) (single-step (rules reporters currencies) call l _ e refl (ltb-true _ _ h)),
+        ap (λ (o : Outcome (List ℕ) (List ℕ)). o .reply) (single-step (rules tables) call l _ e refl (ltb-true _ _ h)),
       )
       go false h = (
         _,
-        ap (λ (o : Outcome (List ℕ) (List ℕ)). o .reply) (single-stranger (rules reporters currencies) call l e (ltb-false _ _ h)),
+        ap (λ (o : Outcome (List ℕ) (List ℕ)). o .reply) (single-stranger (rules tables) call l e (ltb-false _ _ h)),
       )
 
   pub is-refused : number ≢ 0 → done ≡ record { reply = refused number; store = l }
-  is-refused = single-refused (rules reporters currencies) call l number refl
+  is-refused = single-refused (rules tables) call l number refl
 
   module _ (a : List ℕ) where
-    pub short-exported : {r : ℕ} → length a < answerSize → r ≡ shortNumber number → exported r l a [] ≡ recordExport reporters currencies sender s l a
+    pub short-exported : {r : ℕ} → length a < answerSize → r ≡ shortNumber number → exported r l a [] ≡ recordExport tables sender s l a
     unfolding recordExport
     short-exported {r} h e = ap (λ (n : ℕ). exported n l a []) e ∙ go (eqb number 0) refl
       where
@@ -69,7 +70,7 @@ module _ (reporters currencies sender s l : List ℕ) where
         go false q = rw (is-refused (eqb-false _ _ q)) refl
 
     pub refused-exported : {r : Replied} {n k : ℕ} (m : List ℕ) → r ≡ Refused n → outcome r m ≡ done → k ≡ n
-        → exported k m a [] ≡ recordExport reporters currencies sender s l a
+        → exported k m a [] ≡ recordExport tables sender s l a
     unfolding recordExport
     refused-exported {r} {n} m q o w =
         ap (λ (k : ℕ). exported k m a []) w ∙ go (ap (λ (x : Replied). outcome x m) (sym q) ∙ o) (eqb number 0) refl
@@ -86,7 +87,7 @@ module _ (reporters currencies sender s l : List ℕ) where
             rw (told, same) refl
 
     pub answered-exported : {r : Replied} (w : Answer) (m : List ℕ) {b : List ℕ} → answerSize ≤ length a → r ≡ Answered w → outcome r m ≡ done
-        → b ≡ answerPut 0 w a → exported 0 m b [] ≡ recordExport reporters currencies sender s l a
+        → b ≡ answerPut 0 w a → exported 0 m b [] ≡ recordExport tables sender s l a
     unfolding recordExport answerPut
     answered-exported {r} w m {b} h q o p =
         let e : outcome (Answered w) m ≡ done = ap (λ (x : Replied). outcome x m) (sym q) ∙ o in
@@ -95,28 +96,28 @@ module _ (reporters currencies sender s l : List ℕ) where
         rw (p, le-leb _ _ h, reply, le-ltb _ _ h, ledger) refl
 
 -- a refused file call leaves ledger and buffer
-pub file-kept : (reporters currencies file l a : List ℕ) (n : ℕ) → fileOf reporters currencies file l a .reply ≡ refused n
-    → fileOf reporters currencies file l a ≡ fileOutcome (refused n) l a
+pub file-kept : (tables : Tables) (file l a : List ℕ) (n : ℕ) → fileOf tables file l a .reply ≡ refused n
+    → fileOf tables file l a ≡ fileOutcome (refused n) l a
 unfolding fileOf carriedOut
-file-kept reporters currencies file l a n = go (readingOf reporters currencies file (length a) (ledgerFlaw l))
+file-kept tables file l a n = go (readingOf tables file (length a) (ledgerFlaw l))
   where
-    go : (w : Reply (List Call)) → carriedOut reporters currencies w l a .reply ≡ refused n
-        → carriedOut reporters currencies w l a ≡ fileOutcome (refused n) l a
+    go : (w : Reply (List Call)) → carriedOut tables w l a .reply ≡ refused n
+        → carriedOut tables w l a ≡ fileOutcome (refused n) l a
     go (refused m) e = ap (λ (r : Reply ℕ). fileOutcome r l a) e
     go (accepted calls) e = let y : _≡_ {A = ℕ} 0 1 = cc in absurd (omega arith)
 
 -- the two returns of a file call
-module _ (reporters currencies file l a : List ℕ) (r : Filed) (m b : List ℕ) (o : fileOutcome (filedAs r) m b ≡ fileOf reporters currencies file l a)
+module _ (tables : Tables) (file l a : List ℕ) (r : Filed) (m b : List ℕ) (o : fileOutcome (filedAs r) m b ≡ fileOf tables file l a)
     (word : ℕ) where
-  pub file-refused : {n k : ℕ} → r ≡ File.Refused n → k ≡ n → exported k m b (word ∷ []) ≡ fileExport reporters currencies file l a word
+  pub file-refused : {n k : ℕ} → r ≡ File.Refused n → k ≡ n → exported k m b (word ∷ []) ≡ fileExport tables file l a word
   unfolding fileExport
   file-refused {n} e w =
-      let reply : fileOf reporters currencies file l a .reply ≡ refused n = sym (ap (λ (x : FileOutcome). x .reply) o) ∙ ap filedAs e in
-      let kept : fileOutcome (filedAs r) m b ≡ fileOutcome (refused n) l a = o ∙ file-kept reporters currencies file l a n reply in
+      let reply : fileOf tables file l a .reply ≡ refused n = sym (ap (λ (x : FileOutcome). x .reply) o) ∙ ap filedAs e in
+      let kept : fileOutcome (filedAs r) m b ≡ fileOutcome (refused n) l a = o ∙ file-kept tables file l a n reply in
       (λ i. exported (w i) (kept i .store) (kept i .buffer) (word ∷ [])) ∙ rw reply refl
 
-  pub file-counted : {n : ℕ} → r ≡ File.Count n → exported 0 m b (n ∷ []) ≡ fileExport reporters currencies file l a word
+  pub file-counted : {n : ℕ} → r ≡ File.Count n → exported 0 m b (n ∷ []) ≡ fileExport tables file l a word
   unfolding fileExport
   file-counted {n} e =
-      let reply : fileOf reporters currencies file l a .reply ≡ accepted n = sym (ap (λ (x : FileOutcome). x .reply) o) ∙ ap filedAs e in
+      let reply : fileOf tables file l a .reply ≡ accepted n = sym (ap (λ (x : FileOutcome). x .reply) o) ∙ ap filedAs e in
       (λ i. exported 0 (o i .store) (o i .buffer) (n ∷ [])) ∙ rw reply refl

@@ -8,6 +8,7 @@ use lib.Dec.{ltb, eqb}
 use lib.ListN.{length, drop}
 use Rattle.frame.specs.Reply.{Reply, refused, accepted}
 use Rattle.frame.specs.Isolation.{Outcome, single}
+use Rattle.tables.specs.Tables.{Tables}
 use Rattle.answer.specs.Answer.{answerSize}
 use Rattle.fields.specs.declared.Place.{Place}
 use Rattle.fields.specs.Fields.{fieldPlace}
@@ -30,17 +31,17 @@ abbrev pub recordReply : Outcome (List ℕ) (List ℕ) → List ℕ → List ℕ
 recordReply o l a (refused n) = exported n l a []
 recordReply o l a (accepted w) = cond (ltb (length a) answerSize) (exported 12 l a []) (exported 0 (o .store) (w ++ drop answerSize a) [])
 
-unfoldable pub recordExport : List ℕ → List ℕ → List ℕ → List ℕ → List ℕ → List ℕ → Exported
-recordExport reporters currencies sender «record» l a =
-    let o = single (rules reporters currencies) (called sender «record») l in recordReply o l a (o .reply)
+unfoldable pub recordExport : Tables → List ℕ → List ℕ → List ℕ → List ℕ → Exported
+recordExport tables sender «record» l a =
+    let o = single (rules tables) (called sender «record») l in recordReply o l a (o .reply)
 
 -- a file call: its count of records in the lent word
 abbrev pub fileReply : FileOutcome → List ℕ → List ℕ → ℕ → Reply ℕ → Exported
 fileReply o l a word (refused n) = exported n l a (word ∷ [])
 fileReply o l a word (accepted count) = exported 0 (o .store) (o .buffer) (count ∷ [])
 
-unfoldable pub fileExport : List ℕ → List ℕ → List ℕ → List ℕ → List ℕ → ℕ → Exported
-fileExport reporters currencies file l a word = let o = fileOf reporters currencies file l a in fileReply o l a word (o .reply)
+unfoldable pub fileExport : Tables → List ℕ → List ℕ → List ℕ → ℕ → Exported
+fileExport tables file l a word = let o = fileOf tables file l a in fileReply o l a word (o .reply)
 
 -- the number of a call whose buffer is too short
 abbrev pub shortNumber : ℕ → ℕ

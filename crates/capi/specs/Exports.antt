@@ -8,6 +8,7 @@ use lib.Dec.{eqb, ltb}
 use lib.ListN.{length, take, getD}
 use Rattle.frame.specs.Reply.{Reply, refusalIn}
 use Rattle.text.specs.Bytes.{all}
+use Rattle.tables.specs.Tables.{Tables}
 use Rattle.answer.specs.Answer.{answerSize}
 use Rattle.calls.specs.Call.{called, refusalOf}
 use Rattle.calls.specs.Filing.{readingOf}
@@ -19,11 +20,11 @@ pub data Export : Type 0 where
   record-export : List ℕ → List ℕ → List ℕ → Export
   file-export : List ℕ → List ℕ → ℕ → Export
 
-module _ (reporters currencies : List ℕ) where
+module _ (tables : Tables) where
   -- what it returns and leaves, on the ledger as it then is
   abbrev pub exportOf : Export → List ℕ → Exported
-  exportOf (record-export sender «record» a) l = recordExport reporters currencies sender «record» l a
-  exportOf (file-export file a word) l = fileExport reporters currencies file l a word
+  exportOf (record-export sender «record» a) l = recordExport tables sender «record» l a
+  exportOf (file-export file a word) l = fileExport tables file l a word
 
   -- the answers that it writes from its buffer's start: none where it is refused
   abbrev pub exportAnswers : Export → List ℕ → List ℕ
@@ -57,14 +58,14 @@ module _ (reporters currencies : List ℕ) where
   -- what it returns on every sound ledger
   abbrev pub soundNumber : Export → ℕ
   soundNumber (record-export sender «record» a) =
-      let n = refusalOf reporters currencies (called sender «record») 0 in cond (ltb (length a) answerSize) (shortNumber n) n
-  soundNumber (file-export file a word) = refusalIn (readingOf reporters currencies file (length a) 0)
+      let n = refusalOf tables (called sender «record») 0 in cond (ltb (length a) answerSize) (shortNumber n) n
+  soundNumber (file-export file a word) = refusalIn (readingOf tables file (length a) 0)
 
   -- The claim: ledger and answers are those of the requests that the calls stand for, and demand 3 holds of these; each call returns what it returns on
   -- every sound ledger, and 4 is never among the replies.
   pub record ExportsIsolated (xs : List Export) (l : List ℕ) : Type 0 where
-    pub sameStore : storeThrough xs l ≡ storeOver reporters currencies (requestsOver xs) l
-    pub sameAnswers : answersThrough xs l ≡ answersOver reporters currencies (requestsOver xs) l
+    pub sameStore : storeThrough xs l ≡ storeOver tables (requestsOver xs) l
+    pub sameAnswers : answersThrough xs l ≡ answersOver tables (requestsOver xs) l
     pub sameReplies : repliesThrough xs l ≡ map soundNumber xs
     pub neverFour : all (λ n. not (eqb n 4)) (repliesThrough xs l) ≡ true
-    pub isolated : FilesIsolated reporters currencies (requestsOver xs) l
+    pub isolated : FilesIsolated tables (requestsOver xs) l

@@ -2,6 +2,7 @@
 // refused call writes nothing.
 ghost use mathlib.Core.List.{[], _∷_};
 ghost use mathlib.Core.Path.{_≡_};
+ghost use Rattle.tables.specs.Tables.{tablesOf};
 ghost use Rattle.ledger.specs.Sound.{ledgerFlaw};
 ghost use Rattle.calls.specs.Call.{called, refusalOf};
 ghost use Rattle.capi.specs.Exported.{exported, recordExport, fileExport, shortNumber, fieldNumbers, fieldExport};
@@ -21,8 +22,8 @@ fn short_call<'a>(
     sender: &'a [u8],
     record: &'a [u8],
 ) -> u64
-    ensures { λ r. ⌜ r ≡ shortNumber (refusalOf (now (reporters .entry)) (now (currencies .entry)) (called (now (sender .entry)) (now («record» .entry)))
-        (ledgerFlaw (now (ledger .entry)))) ⌝ }
+    ensures { λ r. ⌜ r ≡ shortNumber (refusalOf (tablesOf (now (reporters .entry)) (now (currencies .entry)))
+        (called (now (sender .entry)) (now («record» .entry))) (ledgerFlaw (now (ledger .entry)))) ⌝ }
 {
     let n = calls::refusal(reporters, currencies, ledger, sender, record);
     if n != 0 { wide(n) } else { SHORT_BUFFER }
@@ -38,8 +39,9 @@ pub extern "C" fn roselhanda_record<'a>(
     record: &'a [u8],
     answer: &mut [u8],
 ) -> u64
-    ensures { λ r. ⌜ exported r (now (ledger .exit)) (now (answer .exit)) [] ≡ recordExport (now (reporters .entry)) (now (currencies .entry))
-        (now (sender .entry)) (now («record» .entry)) (now (ledger .entry)) (now (answer .entry)) ⌝ }
+    ensures { λ r. ⌜ exported r (now (ledger .exit)) (now (answer .exit)) []
+        ≡ recordExport (tablesOf (now (reporters .entry)) (now (currencies .entry))) (now (sender .entry)) (now («record» .entry)) (now (ledger .entry))
+        (now (answer .entry)) ⌝ }
 {
     if answer.len() < ANSWER_SIZE {
         return short_call(reporters, currencies, ledger, sender, record);
@@ -63,8 +65,9 @@ pub extern "C" fn roselhanda_file<'a>(
     answers: &mut [u8],
     records: &mut u64,
 ) -> u64
-    ensures { λ r. ⌜ exported r (now (ledger .exit)) (now (answers .exit)) (now (records .exit) ∷ []) ≡ fileExport (now (reporters .entry))
-        (now (currencies .entry)) (now (file .entry)) (now (ledger .entry)) (now (answers .entry)) (now (records .entry)) ⌝ }
+    ensures { λ r. ⌜ exported r (now (ledger .exit)) (now (answers .exit)) (now (records .exit) ∷ [])
+        ≡ fileExport (tablesOf (now (reporters .entry)) (now (currencies .entry))) (now (file .entry)) (now (ledger .entry)) (now (answers .entry))
+        (now (records .entry)) ⌝ }
 {
     match calls::filing::file_call(file, reporters, currencies, ledger, answers) {
         Filed::Refused(n) => wide(n),

@@ -1,6 +1,7 @@
 use Prim.Native.Nat.{_<_}
 use native.Mathlib.Omega.{arith}
 use mathlib.Core.Path.{_≡_, sym, _∙_}
+use Rattle.tables.specs.Tables.{tablesOf}
 use Rattle.ledger.specs.Sound.{bankCount, ledgerFlaw}
 use Rattle.calls.specs.Call.{called, checkedOf}
 use Rattle.ledger.proofs.LedgerLaws.{flawless, ledger-size}
@@ -15,15 +16,15 @@ start c = c .before .before .before .before .before .before .before .before .bef
 
 -- after the sender check: what it has found of the call's record, and what holds since the call is not refused
 checked : (c : tie.After-check) → let a = start c .args in
-    c .check .result ≡ checkedOf (a .reporters .now) (called (a .sender .now) (a .«record» .now))
+    c .check .result ≡ checkedOf (tablesOf (a .reporters .now) (a .currencies .now)) (called (a .sender .now) (a .«record» .now))
 checked c =
     let whole = c .before .before .before .before .before in
     checked-same _ _ _ _ (whole .before .before .index .ensures) (whole .is-whole .ensures) (c .before .before .before .part .ensures .bytes)
     (c .before .part2 .ensures .bytes) (c .check .ensures)
 
 ok : (c : tie.After-check) → let a = start c .args in
-    Accepted (a .reporters .now) (a .currencies .now) (called (a .sender .now) (a .«record» .now)) (ledgerFlaw (a .ledger .now))
-ok c = accepted _ _ _ _ (start c .pre)
+    Accepted (tablesOf (a .reporters .now) (a .currencies .now)) (called (a .sender .now) (a .«record» .now)) (ledgerFlaw (a .ledger .now))
+ok c = accepted _ _ _ (start c .pre)
 
 enum-known-checked : tie.Need-enum-known-checked
 enum-known-checked c = search needs
@@ -37,7 +38,7 @@ stranger-requires c κs = record-short _ (ok (c .before .before) .formed)
 returns : tie.Need-returns
 returns c =
     let after = c .before .before .before in
-    call-stranger _ _ _ _ (start after .pre) (checked after) (c .before .enum-told .given .1) (c .stranger .ensures)
+    call-stranger _ _ _ (start after .pre) (checked after) (c .before .enum-told .given .1) (c .stranger .ensures)
 
 -- the row for which the record passes is a bank's
 bank : (c : tie.After-known-told) → c .before .checked .given .0 .0 < bankCount
@@ -75,7 +76,7 @@ returns-2 c =
     let told = c .before .before .before .before .before in
     let after = told .before .before .before in
     let step = c .before .before .step in
-    call-step _ _ _ _ (start after .pre) (checked after) (told .before .checked .given .1) (bank told) (ledger-size _ (flawless _ (ok after .kept)))
+    call-step _ _ _ (start after .pre) (checked after) (told .before .checked .given .1) (bank told) (ledger-size _ (flawless _ (ok after .kept)))
     (step .ensures .0) (step .ensures .1)
 
 pub admitted-spec : {M : Type 1} → statement M

@@ -8,7 +8,7 @@ same-length : tie.Need-same-length
 same-length c = search needs
 
 returns : tie.Need-returns
-returns c = call-refused _ _ _ _ (c .before .refusal .ensures) (c .if1 .taken)
+returns c = call-refused _ _ _ (c .before .refusal .ensures) (c .if1 .taken)
 
 admitted-requires : tie.Need-admitted-requires
 admitted-requires c κs = sym (c .before .before .refusal .ensures) ∙ c .before .if1 .left

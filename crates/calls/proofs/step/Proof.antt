@@ -1,6 +1,7 @@
 use mathlib.Core.Path.{_≡_, refl, _∙_}
 use Rattle.fields.specs.Fields.{fieldOf}
 use Rattle.tables.specs.Currencies.{isMoney}
+use Rattle.tables.specs.Tables.{tablesOf}
 use Rattle.checks.specs.Record.{recordFailures}
 use Rattle.calls.specs.Call.{foundRows, stepFailures}
 use Rattle.checks.specs.Booking.{bookingOf}
@@ -17,16 +18,16 @@ judged : (c : tie.After-judge) → let a = c .before .before .before .before .be
     c .judge .result ≡ recordFailures (a .reporters .now) (isMoney (a .currencies .now)) (a .row) (fieldOf (a .«record» .now))
 judged c =
     let pre = c .before .before .before .before .before .pre in
-    c .judge .ensures ∙ record-same _ _ _ _ _ (pre .2) (pre .3)
+    c .judge .ensures ∙ record-same (tablesOf _ _) _ _ _ (pre .2) (pre .3)
 
 returns : tie.Need-returns
 returns c =
-    step-failed _ _ _ _ _ (failures-judged _ _ _ _ _ (judged (c .before .before .before)) (c .before .if1 .taken)) (c .before .if1 .taken)
+    step-failed _ _ _ _ (failures-judged _ _ _ _ (judged (c .before .before .before)) (c .before .if1 .taken)) (c .before .if1 .taken)
     (c .answer-of .ensures)
 
 -- what places 61 to 63 find, and the failures that they leave
 found : (c : tie.After-judge-booking) → let a = c .before .before .before .before .before .before .before .before .before .before .before .args in
-    c .judge-booking .result ≡ foundRows (a .reporters .now) (a .currencies .now) (a .row) (a .«record» .now) (a .c .now)
+    c .judge-booking .result ≡ foundRows (tablesOf (a .reporters .now) (a .currencies .now)) (a .row) (a .«record» .now) (a .c .now)
 found c =
     let start = c .before .before .before .before .before .before .before .before .before .before .before in
     let a = start .args in
@@ -36,10 +37,10 @@ found c =
     c .judge-booking .ensures ∙ (λ i. bookingOf (a .c .now) (named i) (number i))
 
 failures : (c : tie.After-judge-booking) → let a = c .before .before .before .before .before .before .before .before .before .before .before .args in
-    c .judge-booking .result .failed ≡ stepFailures (a .reporters .now) (a .currencies .now) (a .row) (a .«record» .now) (a .c .now)
+    c .judge-booking .result .failed ≡ stepFailures (tablesOf (a .reporters .now) (a .currencies .now)) (a .row) (a .«record» .now) (a .c .now)
 failures c =
     let tested = c .before .before .before .before in
-    failures-found _ _ _ _ _ (judged (tested .before .before)) (tested .if1 .left) (found c) refl
+    failures-found _ _ _ _ (judged (tested .before .before)) (tested .if1 .left) (found c) refl
 
 answer-of-requires-2 : tie.Need-answer-of-requires-2
 answer-of-requires-2 c κs = search needs
@@ -48,7 +49,7 @@ same-length : tie.Need-same-length
 same-length c = search needs
 
 returns-2 : tie.Need-returns-2
-returns-2 c = step-failed _ _ _ _ _ (failures (c .before .before .before .before)) (c .before .if2 .taken) (c .answer-of2 .ensures)
+returns-2 c = step-failed _ _ _ _ (failures (c .before .before .before .before)) (c .before .if2 .taken) (c .answer-of2 .ensures)
 
 book-record-requires : tie.Need-book-record-requires
 book-record-requires c κs = search needs
@@ -66,7 +67,7 @@ returns-3 : tie.Need-returns-3
 returns-3 c =
     let tested = c .before .before .before .before .before in
     let booking = tested .before .before .before in
-    step-booked _ _ _ _ _ (failures booking) (tested .if2 .left) (found booking) (c .answer-of3 .ensures) (c .before .before .before .book-record .ensures)
+    step-booked _ _ _ _ (failures booking) (tested .if2 .left) (found booking) (c .answer-of3 .ensures) (c .before .before .before .book-record .ensures)
 
 pub step-spec : {M : Type 1} → statement M
 step-spec =

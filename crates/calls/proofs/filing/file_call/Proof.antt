@@ -1,5 +1,6 @@
 use native.Mathlib.Omega.{arith}
 use mathlib.Core.Path.{_≡_, ap, sym, _∙_}
+use Rattle.tables.specs.Tables.{tablesOf}
 use Rattle.ledger.specs.Sound.{ledgerFlaw}
 use Rattle.envelope.specs.Envelope.{reportClass, openedAs}
 use Rattle.envelope.proofs.OpenedLaws.{Whole, opened-whole}
@@ -13,7 +14,7 @@ same-length : tie.Need-same-length
 same-length c = search needs
 
 returns : tie.Need-returns
-returns c = file-lent _ _ _ _ _ (c .before .lent-refusal .ensures) (c .if1 .taken)
+returns c = file-lent _ _ _ _ (c .before .lent-refusal .ensures) (c .if1 .taken)
 
 enum-known-opened : tie.Need-enum-known-opened
 enum-known-opened c = search needs
@@ -27,7 +28,7 @@ same-length-2 c = search needs
 returns-2 : tie.Need-returns-2
 returns-2 c =
     let file = c .before .before .before in
-    file-unopened _ _ _ _ _ (sym (file .before .before .lent-refusal .ensures) ∙ file .before .if1 .left) (file .open-report .ensures)
+    file-unopened _ _ _ _ (sym (file .before .before .lent-refusal .ensures) ∙ file .before .if1 .left) (file .open-report .ensures)
     (c .before .enum-told .given .1) (c .refusal-in .ensures)
 
 -- a file that was opened: none of refusals 1 to 4 applies, and its parts lie within it
@@ -35,7 +36,7 @@ abbrev start : tie.After-known-told → tie.Start
 start c = c .before .before .before .before .before .before .before .before .before .before .before .before
 
 free : (c : tie.After-known-told) → let a = start c .args in
-    lentRefusal (a .reporters .now) (a .currencies .now) (a .file .now) (ledgerFlaw (a .ledger .now)) ≡ 0
+    lentRefusal (tablesOf (a .reporters .now) (a .currencies .now)) (a .file .now) (ledgerFlaw (a .ledger .now)) ≡ 0
 free c = sym (c .before .before .before .before .before .lent-refusal .ensures) ∙ c .before .before .before .before .if1 .left
 
 whole : (c : tie.After-known-told) → Whole (start c .args .file .now) (c .before .opened .given .0 .0)
@@ -50,7 +51,7 @@ same-length-3 c = search needs
 returns-3 : tie.Need-returns-3
 returns-3 c =
     let told = c .before .before in
-    file-full _ _ _ _ (start told .args .answers .now) (free told) (told .before .before .before .open-report .ensures) (told .before .opened .given .1)
+    file-full _ _ _ (start told .args .answers .now) (free told) (told .before .before .before .open-report .ensures) (told .before .opened .given .1)
     (c .if2 .taken)
 
 sub-sender : tie.Need-sub-sender
@@ -75,7 +76,7 @@ take-records-requires : tie.Need-take-records-requires
 take-records-requires c κs =
     let tested = c .before .before .before .before in
     let told = tested .before .before in
-    file-open _ _ _ _ _ (free told) (told .before .before .before .open-report .ensures) (told .before .opened .given .1) (tested .if2 .left)
+    file-open _ _ _ _ (free told) (told .before .before .before .open-report .ensures) (told .before .opened .given .1) (tested .if2 .left)
 
 same-length-4 : tie.Need-same-length-4
 same-length-4 c = search needs
@@ -87,7 +88,7 @@ returns-4 : tie.Need-returns-4
 returns-4 c =
     let tested = c .before .before .before .before .before .before .before .before .before in
     let told = tested .before .before in
-    file-taken _ _ _ _ _ (free told) (told .before .before .before .open-report .ensures) (told .before .opened .given .1) (tested .if2 .left)
+    file-taken _ _ _ _ (free told) (told .before .before .before .open-report .ensures) (told .before .opened .given .1) (tested .if2 .left)
     (c .before .before .before .before .take-records .ensures)
 
 pub file-call-spec : {M : Type 1} → statement M

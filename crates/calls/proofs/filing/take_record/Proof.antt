@@ -51,7 +51,7 @@ part-admitted-end c = omega (arith, placed (c .before))
 admitted-requires : tie.Need-admitted-requires
 admitted-requires c κs =
     let line = c .before .before in
-    lent-admitted _ _ _ _ _ _ _ _ (start line .pre) (found line)
+    lent-admitted _ _ _ _ _ _ _ (start line .pre) (found line)
 
 mul-write : tie.Need-mul-write
 mul-write c = search needs
@@ -65,7 +65,7 @@ same-length-2 c = search needs
 returns-2 : tie.Need-returns-2
 returns-2 c =
     let line = c .before .before .before .before .before .before .before .before .before in
-    record-taken _ _ _ _ _ _ _ _ (start line .pre) _ (found line) (c .before .before .before .before .before .before .admitted .ensures)
+    record-taken _ _ _ _ _ _ _ (start line .pre) _ (found line) (c .before .before .before .before .before .before .admitted .ensures)
     (c .before .before .write .ensures)
 
 pub take-record-spec : {M : Type 1} → statement M
