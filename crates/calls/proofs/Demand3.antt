@@ -6,24 +6,24 @@ use mathlib.Core.Bool.{true, false, false≢true}
 use mathlib.Core.List.{List, [], _∷_}
 use mathlib.Core.Logic.{_≢_}
 use mathlib.Core.Path.{_≡_, sym, _∙_}
-use Rattle.frame.specs.Isolation.{Lawful, Isolated, Stopped, single, storeAfter, answersFor}
-use Rattle.frame.specs.Parts.{part}
+use Rattle.frame.specs.Isolation.{Lawful, Stopped, single, answersFor}
 use Rattle.frame.proofs.Isolation.{isolation, stopped}
 use Rattle.frame.proofs.Consequences as consequences
 use Rattle.failures.specs.declared.Failures.{Failures}
 use Rattle.tables.specs.Tables.{Tables}
-use Rattle.ledger.specs.Sound.{bankCount, compartmentSize, soundCompartment, soundLedger, ledgerFlaw}
+use Rattle.ledger.specs.Sound.{bankCount, compartment, soundCompartment, soundLedger, ledgerFlaw}
 use Rattle.ledger.proofs.LedgerLaws.{flaw-none, flawless, sound-part, own-put, other-put, put-sound, ledger-ext}
 use Rattle.sender.specs.declared.Checked.the-variants.{Failed}
 use Rattle.calls.specs.Call.{Call, checkedOf, rowOf}
 use Rattle.calls.specs.Rules.{rules}
+use Rattle.calls.specs.Demand3.{ledgerAfter, CallsIsolated}
 use Rattle.calls.proofs.CallLaws.{accepted}
 use Rattle.calls.proofs.StepLaws.{step-sound}
 
 module _ (tables : Tables) where
   -- the compartment of a step is sound afterwards
   next-sound : (call : Call) (r : ℕ) → r < bankCount → (l : List ℕ) → ledgerFlaw l ≡ 0
-      → soundCompartment (rules tables .next call (part compartmentSize r l)) ≡ true
+      → soundCompartment (rules tables .next call (compartment r l)) ≡ true
   next-sound call r bank l h =
       step-sound tables (rowOf (checkedOf tables call)) (call .«record») _ (sound-part l (flawless l h) r bank)
 
@@ -38,12 +38,18 @@ module _ (tables : Tables) where
 
   -- For every pair of tables, every list of calls, refused ones included, and every sound ledger: each bank's answers and compartment are those of its
   -- lone copy, and bank after bank leaves the same ledger and the same answers.
-  pub demand3 : (calls : List Call) (l : List ℕ) → soundLedger l ≡ true → Isolated (rules tables) calls l
-  demand3 calls l h = isolation (rules tables) lawful calls l (flaw-none l h)
-
-  -- ".. the ledger staying sound ..", in document 01's own word
-  pub demand3-sound : (calls : List Call) (l : List ℕ) → soundLedger l ≡ true → soundLedger (storeAfter (rules tables) calls l) ≡ true
-  demand3-sound calls l h = flawless _ (demand3 calls l h .staysInOrder)
+  pub demand3 : (calls : List Call) (l : List ℕ) → soundLedger l ≡ true → CallsIsolated tables calls l
+  demand3 calls l h =
+      let all = isolation (rules tables) lawful calls l (flaw-none l h) in
+      record {
+        answers = all .answers;
+        states = all .states;
+        staysSound = flawless _ (all .staysInOrder);
+        refusals = all .refusals;
+        idle = all .idle;
+        sameLedger = all .sameStore;
+        sameAnswers = all .sameAnswers;
+      }
 
   -- On a ledger that is not sound every call of the list is refused, and the ledger stays byte for byte as it is.
   pub demand3-stopped : (calls : List Call) (l : List ℕ) → soundLedger l ≡ false → Stopped (rules tables) calls l
@@ -58,15 +64,14 @@ module _ (tables : Tables) where
 
   -- Two ledgers that agree on a bank's compartment give that bank the same answers, and leave it the same compartment, after any list of calls.
   module _ (calls : List Call) (l m : List ℕ) (h : soundLedger l ≡ true) (k : soundLedger m ≡ true) (r : ℕ) (bank : r < bankCount)
-      (agree : part compartmentSize r l ≡ part compartmentSize r m) where
+      (agree : compartment r l ≡ compartment r m) where
     pub own-answers : answersFor (rules tables) r calls l ≡ answersFor (rules tables) r calls m
     own-answers = consequences.own-answers (rules tables) lawful calls l m (flaw-none l h) (flaw-none m k) r bank agree
 
-    pub own-compartment : part compartmentSize r (storeAfter (rules tables) calls l)
-        ≡ part compartmentSize r (storeAfter (rules tables) calls m)
+    pub own-compartment : compartment r (ledgerAfter tables calls l) ≡ compartment r (ledgerAfter tables calls m)
     own-compartment = consequences.own-state (rules tables) lawful calls l m (flaw-none l h) (flaw-none m k) r bank agree
 
   -- The calls of two banks leave the same ledger in either order.
   pub banks-commute : (a b : Call) (l : List ℕ) → soundLedger l ≡ true → rowOf (checkedOf tables a) ≢ rowOf (checkedOf tables b)
-      → storeAfter (rules tables) (a ∷ b ∷ []) l ≡ storeAfter (rules tables) (b ∷ a ∷ []) l
+      → ledgerAfter tables (a ∷ b ∷ []) l ≡ ledgerAfter tables (b ∷ a ∷ []) l
   banks-commute a b l h differ = consequences.calls-commute (rules tables) lawful a b l (flaw-none l h) differ

@@ -12,7 +12,7 @@ use lib.ListN.{length, drop, replicate}
 use Rattle.frame.specs.Every.{every, least}
 use Rattle.frame.specs.Parts.{part, put}
 use Rattle.frame.specs.Reply.{Reply, refused, accepted}
-use Rattle.frame.specs.Isolation.{Outcome, single, Isolated}
+use Rattle.frame.specs.Isolation.{Outcome, single}
 use Rattle.frame.proofs.Isolation.{single-stranger, single-step}
 use Rattle.frame.proofs.PartLaws.{part-replicate, put-own}
 use Rattle.text.specs.Bytes.{all, same, positionOf}
@@ -58,6 +58,7 @@ use Rattle.envelope.specs.Body.{crlf, recordsOf, linesAt, bodyAt}
 use Rattle.envelope.specs.Envelope.{headOf, tailOf, bodyStage, envelopeOf, reportOf, recordsFrom}
 use Rattle.calls.specs.Call.{Call, called, recordForm, refusalOf, checkedOf, rowOf, answerOf, stepFailures, stepAnswer, bookedAs, stepCompartment}
 use Rattle.calls.specs.Rules.{rules}
+use Rattle.calls.specs.Demand3.{CallsIsolated}
 use Rattle.calls.specs.Filing.{fileLimit, reportCalls, openedReading, readingOf, answersIn, fileOutcome, carriedOut, fileOf}
 use Rattle.calls.specs.Worked.{workedReporters, workedCurrencies, workedTables, workedSender, emptyLedger, r1Answer, r5Answer, r1Row, blankAnswer, workedFile}
 use Rattle.calls.proofs.CallLaws.{call-passes, accepted-call}
@@ -80,7 +81,7 @@ pub empty-sound : soundLedger emptyLedger ≡ true
 unfolding emptyLedger
 empty-sound = empty-ledger ledgerSize refl
 
-pub demand3-met : (calls : List Call) → Isolated (rules workedTables) calls emptyLedger
+pub demand3-met : (calls : List Call) → CallsIsolated workedTables calls emptyLedger
 demand3-met calls = demand3 workedTables calls emptyLedger empty-sound
 
 -- of two lists of two

@@ -1,5 +1,6 @@
 pub mod Call
 pub mod Rules
+pub mod Demand3
 pub mod Replied
 pub mod Filing
 pub mod FileSteps

@@ -7,12 +7,13 @@ use mathlib.Core.Path.{_≡_}
 use lib.Dec.{eqb}
 use lib.ListN.{length, take}
 use Rattle.frame.specs.Reply.{Reply, refused, accepted, refusalIn}
-use Rattle.frame.specs.Isolation.{Isolated, single, replies, storeAfter}
+use Rattle.frame.specs.Isolation.{single, replies, storeAfter}
 use Rattle.text.specs.Bytes.{all}
 use Rattle.tables.specs.Tables.{Tables}
 use Rattle.answer.specs.Answer.{answerSize}
 use Rattle.calls.specs.Call.{Call, refusalOf}
 use Rattle.calls.specs.Rules.{rules}
+use Rattle.calls.specs.Demand3.{CallsIsolated}
 use Rattle.calls.specs.Filing.{readingOf, fileOf, answersIn, FileOutcome}
 
 -- one request to the bureau: a single-record call, or a file call with the answer buffer that is lent
@@ -89,4 +90,4 @@ module _ (tables : Tables) where
     pub sameAnswers : answersOver qs l ≡ answersIn (replies (rules tables) (callsOver qs) l)
     pub sameReplies : repliesOver qs l ≡ map soundReply qs
     pub neverFour : all (λ n. not (eqb n 4)) (map refusalIn (repliesOver qs l)) ≡ true
-    pub isolated : Isolated (rules tables) (callsOver qs) l
+    pub isolated : CallsIsolated tables (callsOver qs) l

@@ -4,9 +4,9 @@
 use Prim.Native.Nat.{ℕ}
 use mathlib.Core.List.{List}
 use Rattle.frame.specs.Isolation.{Rules}
-use Rattle.frame.specs.Parts.{part, put}
+use Rattle.frame.specs.Parts.{put}
 use Rattle.tables.specs.Tables.{Tables}
-use Rattle.ledger.specs.Sound.{bankCount, compartmentSize, ledgerFlaw}
+use Rattle.ledger.specs.Sound.{bankCount, compartmentSize, compartment, ledgerFlaw}
 use Rattle.answer.specs.Answer.{answerBytes}
 use Rattle.calls.specs.Call.{Call, noRow, refusalOf, checkedOf, rowOf, failedOf, noReporter, answerOf, stepAnswer, stepCompartment}
 
@@ -17,7 +17,7 @@ rules tables = record {
   Store = List ℕ;
   State = List ℕ;
   banks = bankCount;
-  own = part compartmentSize;
+  own = compartment;
   keep = put compartmentSize;
   flaw = ledgerFlaw;
   refusal = refusalOf tables;

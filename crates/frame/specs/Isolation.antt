@@ -1,4 +1,5 @@
--- Demand 3 of document 01 for any rules of judging and booking: calls, the lone copy, bank after bank, and the claim about a list of calls.
+-- Demand 3 for any rules of judging and booking: calls, the lone copy, bank after bank, and the claim about a list of calls. Document 01's own words for
+-- its ledger stand with the rules of document 01, in `CallsIsolated` of the crate `calls`.
 -- Assumes nothing.
 use Prim.Native.Nat.{ℕ, zero, suc, _<_}
 use mathlib.Core.Path.{_≡_}
@@ -94,22 +95,21 @@ module _ (R : Rules) where
   bankAfterBank zero cs = []
   bankAfterBank (suc n) cs = bankAfterBank n cs ++ steps n cs
 
-  -- The claim, of a list of calls and the store that it starts on. Each field stands under the words of document 01, "The lone copy of demand 3".
+  -- The claim, of a list of calls and the store that it starts on.
   pub record Isolated (cs : List Call) (s : Store) : Type 0 where
-    -- "Compared are all bytes: its answers with those of the same calls, in order, .."
+    -- each bank's answers are those of its lone copy, in order
     pub answers : (r : ℕ) → r < banks → answersFor r cs s ≡ loneAnswers (steps r cs) (own r s)
-    -- ".. and its last state with compartment r after the list."
+    -- each bank's part after the list is its lone copy's last state
     pub states : (r : ℕ) → r < banks → own r (storeAfter cs s) ≡ loneState (steps r cs) (own r s)
-    -- ".. the ledger staying sound .."
+    -- the store stays in order
     pub staysInOrder : flaw (storeAfter cs s) ≡ 0
-    -- ".. 4 never applies ..": each call is refused just as on a store in order
+    -- no call is refused for the store: each is refused just as on one in order
     pub refusals : map refusalIn (replies cs s) ≡ map (λ c. refusal c 0) cs
-    -- "A refused call (..) and a record that doesn't pass the sender check for r are no step.": one call more that is a step for no bank leaves the store
+    -- one call more that is a step for no bank, refused or not, leaves the store
     pub idle : (c : Call) → ((r : ℕ) → r < banks → isStep r c ≡ false) → storeAfter (cs ++ (c ∷ [])) s ≡ storeAfter cs s
-    -- "Bank after bank, from the same starting ledger: first the calls that are steps for bank 0, in list order, then those for bank 1, up to 15; the
-    -- others are left out.": the same last store
+    -- bank after bank leaves the same store
     pub sameStore : storeAfter (bankAfterBank banks cs) s ≡ storeAfter cs s
-    -- and each bank's answers are the same
+    -- and gives each bank the same answers
     pub sameAnswers : (r : ℕ) → r < banks → answersFor r (bankAfterBank banks cs) s ≡ answersFor r cs s
 
   -- The claim for a store that is not in order: every call of the list is refused, by a number that is not 0, and the store stays as it is.

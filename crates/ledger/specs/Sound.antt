@@ -25,6 +25,10 @@ bankCount = 16
 abbrev pub ledgerSize : ℕ
 ledgerSize = bankCount * compartmentSize
 
+-- compartment r of a ledger
+abbrev pub compartment : ℕ → List ℕ → List ℕ
+compartment r l = part compartmentSize r l
+
 -- the rows of a compartment, each by its place
 abbrev pub Rows : Type 0
 Rows = ℕ → List ℕ
@@ -56,7 +60,7 @@ soundCompartment c = eqb (length c) compartmentSize && every rowCount (soundRow 
 
 -- the ledger is as document 01 asks
 unfoldable pub soundLedger : List ℕ → Bool
-soundLedger l = eqb (length l) ledgerSize && every bankCount (λ r. soundCompartment (part compartmentSize r l))
+soundLedger l = eqb (length l) ledgerSize && every bankCount (λ r. soundCompartment (compartment r l))
 
 -- the number by which the ledger refuses a call; 0 for none
 unfoldable pub ledgerFlaw : List ℕ → ℕ
