@@ -19,6 +19,7 @@ use Rattle.text.specs.Bytes.{all, same, positionOf}
 use Rattle.text.specs.Number.{littleEndian, lowBytes, numberAt}
 use Rattle.text.specs.Text.{bytes}
 use Rattle.text.specs.Order.{orderOf}
+use Rattle.text.specs.Search.{isAmong, follows}
 use Rattle.decimal.specs.Decimal.{decimalOf, decimalAt, wholeOnly, wholeAndPart, digitsUpTo, digitsValueAfter}
 use Rattle.calendar.specs.Calendar.{digitsExactly, realDate, realDay, daysIn, realMinute, realSecond}
 use Rattle.identifier.specs.Identifier.{bankCode, swiftForm, completed, sameAddress, nameUpTo}
@@ -71,7 +72,7 @@ unfolding workedReporters reportersOk reporterOk reporterForm reportersDiffer ma
 worked-reporters = refl
 
 pub worked-currencies : currenciesOk workedCurrencies ≡ true
-unfolding workedCurrencies currenciesOk currencyOk isSpecial every part all same orderOf
+unfolding workedCurrencies currenciesOk currencyOk isSpecial every part all same orderOf follows
 worked-currencies = refl
 
 worked-tables : tablesFlaw workedTables ≡ 0
@@ -138,7 +139,7 @@ steps : map stepped (r1 ∷ r5 ∷ []) ≡ (r1Answer, r1Row ++ replicate (compar
 unfolding workedRecord workedReporters workedCurrencies r1Answer r5Answer r1Row least part put all same positionOf decimalOf decimalAt wholeOnly wholeAndPart
     digitsUpTo digitsValueAfter digitsExactly realDate realDay daysIn realSecond bankCode swiftForm completed sameAddress nameUpTo isinForm letterValue
     digitsOf digits weighted digitSum checkDigitRight holds added addedFrom codes codeAt isWhole semicolonsFrom fieldStart fieldEnd fieldPlace fieldOf letter
-    hasCode hasAddress isSpecial isMoney lacksForm sameParty clientTests venueForm tradeTests instrumentTests termsTests namesOwn capacityTests
+    hasCode hasAddress isSpecial isMoney isAmong lacksForm sameParty clientTests venueForm tradeTests instrumentTests termsTests namesOwn capacityTests
     derivativeTests markTests asksUnderlying isMissing isTheme presentTests underlyingTests clientGroup tradeGroup instrumentGroup termsGroup
     capacityGroup derivativeGroup underlyingGroup marksGroup recordTests recordFailures padded newRow entered canBook booked lowBytes numberAt littleEndian
     freeRow rowByNumber liveRow namedRow bookingTests bookingOf failuresFrom7 statusAt stepFailures answerOf stepAnswer bookedAs stepCompartment answerBytes

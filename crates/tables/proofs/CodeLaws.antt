@@ -16,7 +16,7 @@ use Rattle.frame.proofs.PartLaws.{part-length}
 use Rattle.text.specs.Class.{isCapital}
 use Rattle.text.specs.Bytes.{all, same}
 use Rattle.text.specs.Number.{bigEndian}
-use Rattle.text.specs.Order.{below}
+use Rattle.text.specs.Search.{follows}
 use Rattle.text.specs.Text.{bytes}
 use Rattle.text.proofs.ByteLaws.{isByte, all-parts, all-weaker, same-apart}
 use Rattle.text.proofs.WordLaws.{below-big}
@@ -75,10 +75,10 @@ module _ (t : List ℕ) (whole : length t ≡ currencyCount t * currencySize) (c
   code-length : (k : ℕ) → k < currencyCount t → length (currencyAt t k) ≡ 3
   code-length k h = part-length currencySize k t (omega arith)
 
-  follows : (k : ℕ) → k < currencyCount t
-      → (eqb k 0 || below (currencyAt t (k - 1)) (currencyAt t k)) ≡ ltb (numberBefore t k) (bigEndian (currencyAt t k))
-  follows zero h = sym (lt-ltb 0 _ (capitals-above (currencyAt t 0) (code-capitals 0 h) (omega (arith, code-length 0 h))))
-  follows (suc k) h =
+  follows-number : (k : ℕ) → k < currencyCount t → follows (currencyAt t) k ≡ ltb (numberBefore t k) (bigEndian (currencyAt t k))
+  unfolding follows
+  follows-number zero h = sym (lt-ltb 0 _ (capitals-above (currencyAt t 0) (code-capitals 0 h) (omega (arith, code-length 0 h))))
+  follows-number (suc k) h =
       let last : suc k - 1 ≡ k = omega arith in
       let first : k < currencyCount t = omega arith in
       rw (ne-eqb (suc k) 0 (omega arith), last)
@@ -92,7 +92,7 @@ module _ (t : List ℕ) (whole : length t ≡ currencyCount t * currencySize) (c
 
     pub code-decides : currencyOk t k ≡ not (isSpecial w) && ltb before x
     unfolding currencyOk
-    code-decides = rw (code-capitals k h, follows k h, ← e, ← number, ← lent) refl
+    code-decides = rw (code-capitals k h, follows-number k h, ← e, ← number, ← lent) refl
 
     pub code-kept : x ≡ numberBefore t (k + 1)
     code-kept = let last : k + 1 - 1 ≡ k = omega arith in rw (ne-eqb (k + 1) 0 (omega arith), last) number

@@ -1,15 +1,15 @@
 -- The currency list of document 01, "Lent tables and the ledger": 0 to 512 codes of three capitals, strictly ascending; money and special codes.
 -- Assumes nothing.
-use Prim.Native.Nat.{ℕ, zero, suc, _+_, _-_, _*_, _/_, _%_}
-use mathlib.Core.Bool.{Bool, true, false, _&&_, _||_, not, cond}
+use Prim.Native.Nat.{ℕ, _*_, _/_, _%_}
+use mathlib.Core.Bool.{Bool, _&&_, _||_, not}
 use mathlib.Core.List.{List}
-use lib.Dec.{leb, ltb, eqb}
+use lib.Dec.{leb, eqb}
 use lib.ListN.{length}
-use Rattle.frame.specs.Every.{every, least}
+use Rattle.frame.specs.Every.{every}
 use Rattle.frame.specs.Parts.{part}
 use Rattle.text.specs.Class.{isCapital}
 use Rattle.text.specs.Bytes.{all, same}
-use Rattle.text.specs.Order.{below}
+use Rattle.text.specs.Search.{isAmong, follows, found}
 use Rattle.text.specs.Text.{bytes}
 
 -- bytes of a code, and the most codes that a list may have
@@ -31,8 +31,7 @@ isSpecial s = same s (bytes "XXX") || same s (bytes "XXK") || same s (bytes "XXO
 
 -- code k is three capitals, no special code, and comes after the code before it
 unfoldable pub currencyOk : List ℕ → ℕ → Bool
-currencyOk t k =
-    all isCapital (currencyAt t k) && not (isSpecial (currencyAt t k)) && (eqb k 0 || below (currencyAt t (k - 1)) (currencyAt t k))
+currencyOk t k = all isCapital (currencyAt t k) && not (isSpecial (currencyAt t k)) && follows (currencyAt t) k
 
 -- the list is as document 01 asks; else a call is refused by 3
 unfoldable pub currenciesOk : List ℕ → Bool
@@ -41,18 +40,8 @@ currenciesOk t =
 
 -- "Money": a code in the list
 unfoldable pub isMoney : List ℕ → List ℕ → Bool
-isMoney t s = ltb (least (currencyCount t) (λ k. same (currencyAt t k) s)) (currencyCount t)
-
--- what a search finds among the codes from low to below high that halves them at most n times
-unfoldable pub searched : ℕ → List ℕ → List ℕ → ℕ → ℕ → Bool
-searched zero t s low high = false
-searched (suc n) t s low high =
-    cond (ltb low high)
-    (let middle = low + (high - low) / 2 in
-    cond (same (currencyAt t middle) s) true
-    (cond (below (currencyAt t middle) s) (searched n t s (middle + 1) high) (searched n t s low middle)))
-    false
+isMoney t s = isAmong (currencyCount t) (currencyAt t) s
 
 -- what a search of the whole list finds: money, where the list is as document 01 asks
 unfoldable pub foundMoney : List ℕ → List ℕ → Bool
-foundMoney t s = searched (currencyCount t) t s 0 (currencyCount t)
+foundMoney t s = found (currencyCount t) (currencyAt t) s

@@ -3,3 +3,4 @@ pub mod PartLaws
 pub mod OrderLaws
 pub mod NumberLaws
 pub mod WordLaws
+pub mod SearchLaws

@@ -4,3 +4,4 @@ pub mod Bytes
 pub mod Part
 pub mod Order
 pub mod Number
+pub mod Search

@@ -1,19 +1,20 @@
 -- The search of what is left finds what that of the whole list finds.
 -- Assumes nothing.
 use Prim.Native.Nat.{_-_}
-use Rattle.tables.proofs.CurrencyLaws.{Left, left-all, left-none, left-hit, left-above, left-under}
 use borrow.Author.Needs.{needs}
+use Rattle.text.proofs.SearchLaws.{Left, left-all, left-none, left-hit, left-above, left-under}
+use Rattle.tables.specs.Currencies.{currencyCount, currencyAt, foundMoney}
 use Rattle.tables.proofs.is_money.Statement.{statement}
 use Rattle.tables.proofs.is_money.Tie as tie
 
 abbrev Inv-loop : tie.InvT-loop
-Inv-loop t s low₀ high₀ low high = Left t s low high
+Inv-loop t s low₀ high₀ low high = Left (currencyCount t) (currencyAt t) s low high
 
 abbrev μ-loop : tie.MeasureT-loop
 μ-loop t s low₀ high₀ low high = high - low
 
 loop-holds : tie.Need-loop-holds Inv-loop μ-loop
-loop-holds c = left-all _ _ _ (c .currency-count .ensures)
+loop-holds c = left-all _ (currencyAt _) _ _ (c .currency-count .ensures)
 
 sub-middle : tie.Need-sub-middle Inv-loop μ-loop
 sub-middle c = search needs
@@ -28,9 +29,10 @@ enum-told : tie.Need-enum-told Inv-loop μ-loop
 enum-told c = search needs
 
 returns : tie.Need-returns Inv-loop μ-loop
+unfolding foundMoney
 returns c =
     let lent = c .before .before .before in
-    left-hit _ _ _ _ (lent .before .before .loop .inv) (lent .before .loop-test .taken) (lent .currency .ensures)
+    left-hit _ _ _ _ _ (lent .before .before .loop .inv) (lent .before .loop-test .taken) (lent .currency .ensures)
     (c .before .before .compare .ensures) (c .enum-told .given .1)
 
 enum-told-2 : tie.Need-enum-told-2 Inv-loop μ-loop
@@ -45,7 +47,7 @@ loop-less c = search needs
 loop-again : tie.Need-loop-again Inv-loop μ-loop
 loop-again c =
     let lent = c .before .before .before in
-    left-above _ _ _ _ (lent .before .before .loop .inv) (lent .before .loop-test .taken) (lent .currency .ensures)
+    left-above _ _ _ _ _ (lent .before .before .loop .inv) (lent .before .loop-test .taken) (lent .currency .ensures)
     (c .before .before .compare .ensures) (c .enum-told2 .given .1)
 
 enum-told-3 : tie.Need-enum-told-3 Inv-loop μ-loop
@@ -57,11 +59,12 @@ loop-less-2 c = search needs
 loop-again-2 : tie.Need-loop-again-2 Inv-loop μ-loop
 loop-again-2 c =
     let lent = c .before .before .before in
-    left-under _ _ _ _ (lent .before .before .loop .inv) (lent .before .loop-test .taken) (lent .currency .ensures)
+    left-under _ _ _ _ _ (lent .before .before .loop .inv) (lent .before .loop-test .taken) (lent .currency .ensures)
     (c .before .before .compare .ensures) (c .enum-told3 .given .1)
 
 returns-2 : tie.Need-returns-2 Inv-loop μ-loop
-returns-2 c = left-none _ _ _ _ (c .before .loop .inv) (c .loop-test .left)
+unfolding foundMoney
+returns-2 c = left-none _ _ _ _ _ (c .before .loop .inv) (c .loop-test .left)
 
 pub is-money-spec : {M : Type 1} → statement M
 is-money-spec =
