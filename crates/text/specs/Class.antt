@@ -1,11 +1,11 @@
--- The classes of bytes that the forms of document 01 are made of.
+-- The classes of bytes that the forms of documents 01 and 02 are made of.
 -- Assumes nothing.
 use Prim.Native.Nat.{ℕ}
 use Prim.Native.Char.{code}
 use mathlib.Core.Bool.{Bool, true, false, _&&_, _||_, not}
 use lib.Dec.{leb, ltb, eqb}
 use Rattle.text.specs.declared.Class.{Class}
-use Rattle.text.specs.declared.Class.the-variants.{Digit, Capital, CapitalOrDigit, WordByte, RecordByte, AboveApostrophe, BodyByte, Space, Zero}
+use Rattle.text.specs.declared.Class.the-variants.{Digit, Capital, CapitalOrDigit, WordByte, RecordByte, AboveApostrophe, BodyByte, Space, Zero, TextByte}
 
 -- 0 to 9
 abbrev pub isDigit : ℕ → Bool
@@ -36,6 +36,10 @@ isAboveApostrophe b = ltb (code "'") b
 abbrev pub isBodyByte : ℕ → Bool
 isBodyByte b = not (eqb b (code "'"))
 
+-- a byte of a text of the error file, document 02 Item 1: 0x20 to 0x7E without apostrophe
+abbrev pub isTextByte : ℕ → Bool
+isTextByte b = leb 0x20 b && leb b 0x7E && not (eqb b (code "'"))
+
 abbrev pub isSpace : ℕ → Bool
 isSpace b = eqb b (code " ")
 
@@ -52,3 +56,4 @@ belongsTo AboveApostrophe b = isAboveApostrophe b
 belongsTo BodyByte b = isBodyByte b
 belongsTo Space b = isSpace b
 belongsTo Zero b = isZero b
+belongsTo TextByte b = isTextByte b

@@ -3,7 +3,7 @@ ghost use mathlib.Core.Path.{_≡_};
 ghost use Prim.Native.Nat.{_≤_, _<_, _^_};
 ghost use lib.Dec.{eqb};
 ghost use lib.ListN.{length, take, drop};
-ghost use Rattle.text.specs.Class.{belongsTo, isDigit, isCapital, isWordByte, isRecordByte, isZero};
+ghost use Rattle.text.specs.Class.{belongsTo, isDigit, isCapital, isWordByte, isRecordByte, isTextByte, isZero};
 ghost use Rattle.text.specs.Bytes.{all as allOf, same as sameBytes, positionOf};
 ghost use Rattle.text.specs.Part.{Lies, restStart};
 ghost use Rattle.text.specs.Order.{orderOf};
@@ -23,6 +23,7 @@ pub enum Class {
     BodyByte,
     Space,
     Zero,
+    TextByte,
 }
 
 // How two texts stand to each other in the order of their bytes, the first that differs deciding; a beginning comes before the whole.
@@ -56,6 +57,12 @@ fn is_record_byte(b: u8) -> bool
     !(b == b'\r') & !(b == b'\n') & !(b == b'\'')
 }
 
+fn is_text_byte(b: u8) -> bool
+    ensures { λ r. ⌜ r ≡ isTextByte b ⌝ }
+{
+    (0x20 <= b) & (b <= 0x7e) & !(b == b'\'')
+}
+
 // Whether the byte b is of the class c.
 pub fn belongs(c: Class, b: u8) -> bool
     ensures { λ r. ⌜ r ≡ belongsTo c b ⌝ }
@@ -70,6 +77,7 @@ pub fn belongs(c: Class, b: u8) -> bool
         Class::BodyByte => !(b == b'\''),
         Class::Space => b == b' ',
         Class::Zero => b == 0,
+        Class::TextByte => is_text_byte(b),
     }
 }
 

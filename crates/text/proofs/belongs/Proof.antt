@@ -3,7 +3,7 @@ use mathlib.Core.Bool.{Bool, _||_}
 use mathlib.Core.Path.{_≡_, refl, ap, sym, _∙_}
 use borrow.Author.Needs.{needs}
 use Rattle.text.specs.declared.Class.{Class}
-use Rattle.text.specs.declared.Class.the-variants.{Digit, Capital, CapitalOrDigit, WordByte, RecordByte, AboveApostrophe, BodyByte, Space, Zero}
+use Rattle.text.specs.declared.Class.the-variants.{Digit, Capital, CapitalOrDigit, WordByte, RecordByte, AboveApostrophe, BodyByte, Space, Zero, TextByte}
 use Rattle.text.specs.Class.{belongsTo}
 use Rattle.text.proofs.belongs.Statement.{statement}
 use Rattle.text.proofs.belongs.Tie as tie
@@ -41,6 +41,9 @@ returns-8 c = arm (c .before .before .args .b) Space (c .enum-told8 .given .1) r
 returns-9 : tie.Need-returns-9
 returns-9 c = arm (c .before .before .args .b) Zero (c .enum-told9 .given .1) refl
 
+returns-10 : tie.Need-returns-10
+returns-10 c = arm (c .before .before .before .args .b) TextByte (c .before .enum-told10 .given .1) (c .is-text-byte .ensures)
+
 pub belongs-spec : {M : Type 1} → statement M
 belongs-spec =
     tie.close
@@ -60,6 +63,8 @@ belongs-spec =
     (λ c. search needs)
     (λ c. search needs)
     (λ c. search needs)
+    (λ c. search needs)
+    (λ c κs. tt)
     returns
     returns-2
     returns-3
@@ -68,4 +73,5 @@ belongs-spec =
     returns-6
     returns-7
     returns-8
-    returns-9)
+    returns-9
+    returns-10)
