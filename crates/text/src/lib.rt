@@ -243,6 +243,13 @@ pub fn read_u16(s: &[u8], at: usize) -> u16
     number_at(s, at, 2) as u16
 }
 
+// The number in the four bytes of s from a place on, the lowest first; 0 where they are not all there.
+pub fn read_u32(s: &[u8], at: usize) -> u32
+    ensures { λ r. ⌜ r ≡ numberAt 4 at (now (s .entry)) ⌝ }
+{
+    number_at(s, at, 4) as u32
+}
+
 // The number in the eight bytes of s from a place on, the lowest first; 0 where they are not all there.
 pub fn read_u64(s: &[u8], at: usize) -> u64
     ensures { λ r. ⌜ r ≡ numberAt 8 at (now (s .entry)) ⌝ }
@@ -283,6 +290,13 @@ pub fn write_u16(s: &mut [u8], at: usize, x: u16)
     ensures { λ r. ⌜ now (s .exit) ≡ numberPut 2 at x (now (s .entry)) ⌝ }
 {
     put_at(s, at, 2, x as u64);
+}
+
+// Writes x into the four bytes of s from a place on, the lowest first; nothing where they are not all there.
+pub fn write_u32(s: &mut [u8], at: usize, x: u32)
+    ensures { λ r. ⌜ now (s .exit) ≡ numberPut 4 at x (now (s .entry)) ⌝ }
+{
+    put_at(s, at, 4, x as u64);
 }
 
 // Writes x into the eight bytes of s from a place on, the lowest first; nothing where they are not all there.
