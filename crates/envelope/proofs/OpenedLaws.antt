@@ -1,16 +1,16 @@
--- Laws of an opened report: its parts lie one after another within the file, its sender is a name, and its records are as many as it says.
+-- Laws of an opened report: its parts lie one after another within the file, its sender is a name, its word a control word, and its
+-- records are as many as it says.
 -- Assumes nothing.
 use Prim.Native.Nat.{ℕ, _+_, _-_, _<_, _≤_, zero-le}
 use mathlib.Core.Bool.{Bool, true, false, _&&_, cond}
 use mathlib.Core.List.{List}
 use mathlib.Core.Path.{_≡_, refl, ap, sym, subst, _∙_}
 use native.Mathlib.Omega.{arith}
-use borrow.Author.Tests.{le-leb, leb-false, eqb-true, ltb-false}
+use borrow.Author.Tests.{leb-false, eqb-true, ltb-false}
 use lib.Dec.{eqb, leb, ltb}
-use lib.ListN.{length, take, drop}
-use lib.Seq.{length-take-le}
+use lib.ListN.{length, drop}
 use Rattle.frame.specs.Reply.{Reply, refused, accepted}
-use Rattle.text.specs.declared.Class.the-variants.{CapitalOrDigit}
+use Rattle.text.specs.declared.Class.the-variants.{CapitalOrDigit, WordByte}
 use Rattle.text.specs.Bytes.{same}
 use Rattle.text.specs.Text.{bytes}
 use Rattle.identifier.specs.Identifier.{nameUpTo}
@@ -24,11 +24,12 @@ use Rattle.envelope.specs.declared.Span.{Span}
 use Rattle.envelope.specs.declared.Body.{Body}
 use Rattle.envelope.specs.declared.Body.the-variants.{Counted, Broken}
 use Rattle.envelope.specs.declared.Layout.{Layout}
-use Rattle.envelope.specs.Pieces.{between, runOf, textEnd, onPiece, partThen}
+use Rattle.envelope.specs.Pieces.{between, textEnd, onPiece, partEnd, partThen}
 use Rattle.envelope.specs.Body.{Records, broken, records, crlf, recordsOf, apostropheFrom, counted, linesAt, bodyAt}
 use Rattle.envelope.specs.Envelope.{recordCountLimit, headOf, tailOf, Ordered, onHead, onBody, layoutOf, wordStage, tailStage, bodyStage}
-use Rattle.envelope.specs.Envelope.{dateStage, envelopeOf, senderOf, listed, recordsFrom}
-use Rattle.envelope.proofs.PieceLaws.{run-within, run-all, missing-ends, found-piece, picked, text-found, part-found, then-found}
+use Rattle.envelope.specs.Envelope.{dateStage, envelopeOf, senderOf, controlWordOf, listed, recordsFrom}
+use Rattle.envelope.specs.Written.{controlWord}
+use Rattle.envelope.proofs.PieceLaws.{run-form, missing-ends, found-piece, picked, text-found, part-found, then-found}
 
 unread-read : (h : Parts) → Unread ≡ Read h → ⊥
 unread-read h e = let z : _≡_ {A = ℕ} 0 1 = cc in omega arith
@@ -65,17 +66,21 @@ found-body : {A : Type 0} (x : Body) (none v : A) (f : Span → A) → (none ≡
 found-body (Counted b) none v f n e = (b, (refl, e))
 found-body Broken none v f n e = absurd (n e)
 
--- a part of 1 to 8 capitals or digits that ends in a plus
+-- a part of 1 to 8 capitals or digits that ends in a plus; a control word
 name-found : (s : List ℕ) (p q : ℕ) → p ≤ length s → partThen s p CapitalOrDigit 1 8 (bytes "+") ≡ EndsAt q → nameUpTo 8 (between s p (q - 1)) ≡ true
 unfolding nameUpTo
 name-found s p q h e =
     let w = then-found s p q h CapitalOrDigit 1 8 (bytes "+") e in
-    let n = runOf CapitalOrDigit (drop p s) in
-    let m : q - 1 - p ≡ n = omega (arith, w .0) in
-    let long : length (take n (drop p s)) ≡ n = length-take-le n (drop p s) (run-within CapitalOrDigit (drop p s)) in
-    rw (m, long, le-leb _ _ (w .1), le-leb _ _ (w .2)) (run-all CapitalOrDigit (drop p s))
+    run-form CapitalOrDigit 1 8 (q - 1 - p) (drop p s) (omega (arith, w .0)) (w .1) (w .2)
 
-pub head-read : (s class : List ℕ) (h : Parts) → headOf s class ≡ Read h → Ordered s h × (nameUpTo 8 (between s (h .sender) (h .receiver - 1)) ≡ true)
+word-found : (s : List ℕ) (p q : ℕ) → p ≤ length s → partEnd s p WordByte 1 14 ≡ EndsAt q → controlWord (between s p q) ≡ true
+word-found s p q h e = let w = part-found s p q h WordByte 1 14 e in run-form WordByte 1 14 (q - p) (drop p s) (omega (arith, w .0)) (w .1) (w .2)
+
+-- what a head that was read is: its parts lie one after another, its sender is a name, and its word a control word
+abbrev HeadRead : List ℕ → Parts → Type 0
+HeadRead s h = Ordered s h × (nameUpTo 8 (between s (h .sender) (h .receiver - 1)) ≡ true) × (controlWord (between s (h .word) (h .«word_end»)) ≡ true)
+
+pub head-read : (s class : List ℕ) (h : Parts) → headOf s class ≡ Read h → HeadRead s h
 unfolding headOf
 head-read s class h e =
     let n = unread-read h in
@@ -93,7 +98,7 @@ head-read s class h e =
     let p5 = then-found s (w4 .0) (w5 .0) (p4 .3) _ _ _ _ (w5 .1 .0) in
     let p6 = part-found s (w5 .0) (w6 .0) (p5 .3) _ _ _ (w6 .1 .0) in
     let p7 = text-found s (w6 .0) (w7 .0) (p6 .3) _ (w7 .1 .0) in
-    subst (λ (x : Parts). Ordered s x × (nameUpTo 8 (between s (x .sender) (x .receiver - 1)) ≡ true)) (read-is _ h (w7 .1 .1)) (
+    subst (λ (x : Parts). HeadRead s x) (read-is _ h (w7 .1 .1)) (
       record {
         sender = omega (arith, p2 .0);
         receiver = omega (arith, p3 .0);
@@ -104,6 +109,7 @@ head-read s class h e =
         end = p7 .1;
       },
       name-found s (w1 .0) (w2 .0) (p1 .1) (w2 .1 .0),
+      word-found s (w5 .0) (w6 .0) (p5 .3) (w6 .1 .0),
     )
 
 -- the word of a tail begins before the last byte of the file
@@ -151,11 +157,14 @@ pub record Whole (s : List ℕ) (l : Layout) : Type 0 where
   pub from : l .sender ≤ l .«sender_end»
   pub inside : l .«sender_end» ≤ length s
   pub named : nameUpTo 8 (senderOf s l) ≡ true
+  pub wordOrder : l .word ≤ l .«word_end»
+  pub wordWithin : l .«word_end» ≤ length s
+  pub worded : controlWord (controlWordOf s l) ≡ true
 
-body-whole : (s : List ℕ) (h : Parts) (l : Layout) → Ordered s h → nameUpTo 8 (between s (h .sender) (h .receiver - 1)) ≡ true
-    → bodyStage s h ≡ accepted l → Whole s l
+body-whole : (s : List ℕ) (h : Parts) (l : Layout) → HeadRead s h → bodyStage s h ≡ accepted l → Whole s l
 unfolding bodyStage recordsFrom
-body-whole s h l o n e =
+body-whole s h l r e =
+    let o = r .0 in
     let w1 = found-body (bodyAt s (h .end)) _ _ (tailStage s h) (refused-report 8 l) e in
     let b = w1 .0 in
     let w2 = found-piece (tailOf s (b .end)) _ _ (wordStage s h b) (refused-report 9 l) (w1 .1 .1) in
@@ -171,7 +180,10 @@ body-whole s h l o n e =
       few = ltb-false _ _ (w4 .0);
       from = omega (arith, o .sender);
       inside = omega (arith, o .sender, o .receiver, o .date, o .time, o .word, o .wordEnd, o .end);
-      named = n;
+      named = r .1;
+      wordOrder = o .word;
+      wordWithin = omega (arith, o .wordEnd, o .end);
+      worded = r .2;
     })
 
 pub opened-whole : (class s : List ℕ) (l : Layout) → envelopeOf class s ≡ accepted l → Whole s l
@@ -183,7 +195,7 @@ opened-whole class s l e =
     let real = realDate (between s (h .date) (h .time - 1)) && realMinute (between s (h .time) (h .word - 1)) in
     let w2 = taken real _ _ _ (refused-report 6 l) (w1 .1 .1) in
     let w3 = taken (same (between s (h .receiver) (h .date - 1)) (bytes "ATBWA")) _ _ _ (refused-report 7 l) (w2 .1) in
-    body-whole s h l (r .0) (r .1) (w3 .1)
+    body-whole s h l r (w3 .1)
 
 -- an envelope is refused by 5 to 11
 record FromFive (r : Reply Layout) : Type 0 where

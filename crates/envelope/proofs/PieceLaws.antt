@@ -6,10 +6,10 @@ use mathlib.Core.List.{List, [], _∷_}
 use mathlib.Core.Path.{_≡_, refl, ap, _∙_}
 use native.Mathlib.Numerals.{add-one}
 use native.Mathlib.Omega.{arith}
-use borrow.Author.Tests.{leb-true}
+use borrow.Author.Tests.{le-leb, leb-true}
 use lib.Dec.{eqb, leb}
 use lib.ListN.{length, take, drop, getD, length-drop, drop-of-length-le}
-use lib.Seq.{drop-cons}
+use lib.Seq.{drop-cons, length-take-le}
 use Rattle.frame.proofs.BoolLaws.{and-left, and-right}
 use Rattle.text.specs.declared.Class.{Class}
 use Rattle.text.specs.Class.{belongsTo}
@@ -43,7 +43,7 @@ run-within k [] = zero-le
 run-within k (b ∷ l) = run-step (belongsTo k b) (runOf k l) (length l) (run-within k l)
 
 -- the bytes of a run are of the class
-pub run-all : (k : Class) (l : List ℕ) → all (belongsTo k) (take (runOf k l) l) ≡ true
+run-all : (k : Class) (l : List ℕ) → all (belongsTo k) (take (runOf k l) l) ≡ true
 unfolding runOf all
 run-all k [] = refl
 run-all k (b ∷ l) = go (belongsTo k b) refl (run-all k l)
@@ -52,6 +52,11 @@ run-all k (b ∷ l) = go (belongsTo k b) refl (run-all k l)
         → all (belongsTo k) (take (cond x (suc (runOf k l)) 0) (b ∷ l)) ≡ true
     go true e h = rw e h
     go false e h = refl
+
+-- a run of lo to hi bytes of a class, taken: it has so many bytes, and all are of the class
+pub run-form : (k : Class) (lo hi n : ℕ) (l : List ℕ) → n ≡ runOf k l → lo ≤ runOf k l → runOf k l ≤ hi
+    → (leb lo (length (take n l)) && leb (length (take n l)) hi && all (belongsTo k) (take n l)) ≡ true
+run-form k lo hi n l e a b = rw (e, length-take-le (runOf k l) l (run-within k l), le-leb _ _ a, le-leb _ _ b) (run-all k l)
 
 -- a text, byte by byte
 pub text-on : (t s : List ℕ) (i p : ℕ) → i < length t → p < length s

@@ -26,7 +26,7 @@ use Rattle.envelope.specs.declared.Body.the-variants.{Counted}
 use Rattle.envelope.specs.declared.Layout.{Layout}
 use Rattle.envelope.specs.Pieces.{between, runOf, begins, textEnd, partEnd, partThen}
 use Rattle.envelope.specs.Body.{records, crlf, recordsOf, linesAt, bodyAt}
-use Rattle.envelope.specs.Envelope.{recordCountLimit, headOf, tailOf, layoutOf, bodyStage, envelopeOf, senderOf, listed, recordsFrom}
+use Rattle.envelope.specs.Envelope.{recordCountLimit, headOf, tailOf, layoutOf, bodyStage, envelopeOf, senderOf, controlWordOf, listed, recordsFrom}
 use Rattle.envelope.specs.Written.{Envelope, Formed, ReadsBack, linesThen, written, controlWord, allRecords}
 
 begins-self : (t q : List ℕ) → begins t (t ++ q) ≡ true
@@ -246,10 +246,11 @@ module _ (e : Envelope) where
         ),
       )
 
-  -- A report that is written to ATBWA with a real date and time, of at most 1,024 records, is opened as its sender's, with its records.
+  -- A report that is written to ATBWA with a real date and time, of at most 1,024 records, is opened as its sender's, with its word and its records.
   pub report-back : Formed e → e .receiver ≡ bytes "ATBWA" → realDate (e .date) ≡ true → realMinute (e .time) ≡ true
       → length (e .records) ≤ recordCountLimit
-      → (l : Layout) × ((envelopeOf (e .class) (written e) ≡ accepted l) × ((senderOf (written e) l ≡ e .sender) × (recordsFrom (written e) l ≡ e .records)))
+      → (l : Layout) × ((envelopeOf (e .class) (written e) ≡ accepted l)
+      × ((senderOf (written e) l ≡ e .sender) × (controlWordOf (written e) l ≡ e .word) × (recordsFrom (written e) l ≡ e .records)))
   unfolding envelopeOf bodyStage recordsFrom
   report-back f to date time few =
       let r = read-back f in
@@ -263,6 +264,6 @@ module _ (e : Envelope) where
         layoutOf h b,
         (
           rw (back .head, back .date, date, back .time, time, receiver, back .body, back .tail, words, le-ltb _ _ count) refl,
-          (back .sender, ap listed (back .records)),
+          (back .sender, back .word, ap listed (back .records)),
         ),
       )

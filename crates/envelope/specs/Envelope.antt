@@ -69,10 +69,18 @@ abbrev pub onBody : {A : Type 0} → Body → A → (Span → A) → A
 onBody (Counted b) none f = f b
 onBody Broken none f = none
 
--- where the sender and the records of a report lie, and how many records it has
+-- where the sender, the control word and the records of a report lie, and how many records it has
 abbrev pub layoutOf : Parts → Span → Layout
 layoutOf h b =
-    record { sender = h .sender; «sender_end» = h .receiver - 1; first = b .first; end = b .end; records = b .records }
+    record {
+      sender = h .sender;
+      «sender_end» = h .receiver - 1;
+      word = h .word;
+      «word_end» = h .«word_end»;
+      first = b .first;
+      end = b .end;
+      records = b .records;
+    }
 
 -- 11 over 1,024 records
 abbrev pub countStage : List ℕ → Parts → Span → Reply Layout
@@ -108,14 +116,17 @@ envelopeOf class s = onHead (headOf s class) (refused 5) (dateStage s)
 abbrev pub reportOf : List ℕ → Reply Layout
 reportOf s = envelopeOf reportClass s
 
--- what each case of an opened file stands for: the number of its refusal, 5 to 11; or a report, whose sender and records are those below
+-- what each case of an opened file stands for: the number of its refusal, 5 to 11; or a report, whose sender, control word and records are those below
 abbrev pub openedAs : Opened → Reply Layout
 openedAs (Refused n) = refused n
 openedAs (Report l) = accepted l
 
--- the sender and the records of a report
+-- the sender, the control word and the records of a report
 abbrev pub senderOf : List ℕ → Layout → List ℕ
 senderOf s l = between s (l .sender) (l .«sender_end»)
+
+abbrev pub controlWordOf : List ℕ → Layout → List ℕ
+controlWordOf s l = between s (l .word) (l .«word_end»)
 
 abbrev pub listed : Records → List (List ℕ)
 listed broken = []

@@ -48,10 +48,12 @@ pub enum Head {
     Unread,
 }
 
-// A report: where its sender and its records lie in the file, and how many records it has.
+// A report: where its sender, its control word and its records lie in the file, and how many records it has.
 pub struct Layout {
     pub sender: usize,
     pub sender_end: usize,
+    pub word: usize,
+    pub word_end: usize,
     pub first: usize,
     pub end: usize,
     pub records: usize,
@@ -276,6 +278,8 @@ fn open_body(s: &[u8], h: Parts) -> Opened
     Opened::Report(Layout {
         sender: h.sender,
         sender_end: h.receiver - 1,
+        word: h.word,
+        word_end: h.word_end,
         first: b.first,
         end: b.end,
         records: b.records,
