@@ -1,10 +1,17 @@
-// Files that are read whole, as far as a buffer has room.
+// Files that are read whole, as far as a buffer has room, and files that are saved whole.
 ghost use Rattle.io.specs.Counts.{Counts};
 
 // How many bytes of the buffer a file filled, and whether all of it could be read.
 pub struct Loaded {
     pub bytes: usize,
     pub readable: bool,
+}
+
+// What became of a save: the name stands for all the bytes; they could not be written; or what was written could not take the name.
+pub enum Saved {
+    Whole,
+    Unwritten,
+    Unnamed,
 }
 
 // Whether nothing is left to read: the next read gives no byte, and does not fail.
@@ -47,4 +54,40 @@ pub fn load_or_fail(path: &[u8], buffer: &mut [u8]) -> usize
         os::fail(path);
     }
     loaded.bytes
+}
+
+// Writes all bytes to a new file, and waits until they have reached its device.
+fn write_new(path: &[u8], bytes: &[u8]) -> bool {
+    let fd = os::create(path);
+    if fd < 0 {
+        return false;
+    }
+    let written = io::write_all(fd, bytes) && libc::fsync(fd) == 0;
+    let closed = libc::close(fd) == 0;
+    written & closed
+}
+
+// Waits until a new name has reached the device of the working directory, where the system can tell.
+fn sync_folder() {
+    let fd = os::open_read(b".");
+    if fd < 0 {
+        return;
+    }
+    libc::fsync(fd);
+    libc::close(fd);
+}
+
+// Saves a file in the working directory, so that its name always stands for a whole one: it is written under a temporary name, which a stopped
+// run may have left, and then renamed. Where that fails an older file stays as it is, and errno says why until the next call, so that the caller
+// removes what was written only after it has said so. No contract can tell of this: what a name stands for is the operating system's word.
+pub fn save(bytes: &[u8], temporary: &[u8], name: &[u8]) -> Saved {
+    os::unlink(temporary);
+    if !write_new(temporary, bytes) {
+        return Saved::Unwritten;
+    }
+    if os::rename(temporary, name) != 0 {
+        return Saved::Unnamed;
+    }
+    sync_folder();
+    Saved::Whole
 }

@@ -1,11 +1,9 @@
 // Books report.edi into ledger.dat, by reporters.ref and currency.ref, all in the working directory. Saves the new ledger as ledger.new, then
 // prints what became of each record.
 ghost use Rattle.io.specs.Counts.{Counts};
-
-mod save;
-
 use calls::filing::Filed;
 use disk::Loaded;
+use disk::Saved;
 use libc::STDERR_FILENO;
 use libc::STDOUT_FILENO;
 
@@ -41,6 +39,22 @@ fn load(path: &[u8], buffer: &mut [u8]) -> Loaded
     loaded
 }
 
+// Says what failed, and removes what was written.
+fn give_up(doing: &[u8], path: &[u8]) -> bool {
+    complain(doing, path);
+    os::unlink(b"ledger.tmp");
+    false
+}
+
+// Saves the ledger, and complains where it cannot be saved.
+fn save(ledger: &[u8]) -> bool {
+    match disk::save(ledger, b"ledger.tmp", b"ledger.new") {
+        Saved::Whole => true,
+        Saved::Unwritten => give_up(b"cannot write ", b"ledger.tmp"),
+        Saved::Unnamed => give_up(b"cannot replace ", b"ledger.new"),
+    }
+}
+
 // Prints a page up to the end of its text.
 fn print(page: &[u8], end: usize) {
     if !io::write_all(STDOUT_FILENO, text::front(page, end)) {
@@ -58,7 +72,7 @@ fn run<'a>(file: &'a [u8], reporters: &'a [u8], currencies: &'a [u8], ledger: &m
             print(&page, end);
         }
         Filed::Count(n) => {
-            if save::save(ledger) {
+            if save(ledger) {
                 let end = results::accepted(&mut page, &answers, n);
                 print(&page, end);
             }
