@@ -34,13 +34,13 @@ stores-behind vs at d r e h =
     ∙ rw (take-at d r at e, ← drop-drop (length vs) at (d ++ r), drop-at d r at e)
 
 -- the stores that fill the sixteen bytes make the answer's
-pub answer-filled : (a : Answer) (w : List ℕ) {b c d e : List ℕ} → length w ≡ answerSize → b ≡ numberPut 8 0 (a .failed) w
+pub answer-filled : (a : Answer) (w : List ℕ) {b c d e : List ℕ} → length w ≡ answerSize → b ≡ numberPut 8 0 (a .failed .bits) w
     → c ≡ numberPut 2 8 (a .code) b → d ≡ numberPut 2 12 (a .booked) (set (set c 10 (a .row)) 11 (a .status))
     → e ≡ numberPut 2 14 (a .length) d → e ≡ answerBytes a
 unfolding answerBytes
 answer-filled a w {b} {c} {d} {e} sized eb ec ed ee =
     let alone : List ℕ = a .row ∷ a .status ∷ [] in
-    let failed : List ℕ = lowBytes 8 (a .failed) in
+    let failed : List ℕ = lowBytes 8 (a .failed .bits) in
     let coded : List ℕ = failed ++ lowBytes 2 (a .code) in
     let stated : List ℕ = coded ++ alone in
     let booked : List ℕ = stated ++ lowBytes 2 (a .booked) in
@@ -48,7 +48,7 @@ answer-filled a w {b} {c} {d} {e} sized eb ec ed ee =
     let from10 : List ℕ = drop 2 from8 in
     let from12 : List ℕ = drop 2 from10 in
     let from14 : List ℕ = drop 2 from12 in
-    let done8 : b ≡ failed ++ from8 = eb ∙ put-behind 8 0 (a .failed) [] w refl (omega arith) in
+    let done8 : b ≡ failed ++ from8 = eb ∙ put-behind 8 0 (a .failed .bits) [] w refl (omega arith) in
     let done10 : c ≡ coded ++ from10
     = ec ∙ rw done8 (put-behind 2 8 (a .code) failed from8 (low-length 8 _) (simp length-drop (omega arith))) in
     let done12 : set (set c 10 (a .row)) 11 (a .status) ≡ stated ++ from12
@@ -77,7 +77,7 @@ answer-out at s h e = rw (lt-leb _ _ h) e
 pub answer-in : (at : ℕ) (s : List ℕ) {failed code booked len : ℕ} → at + answerSize ≤ length s → failed ≡ numberAt 8 at s
     → code ≡ numberAt 2 (at + 8) s → booked ≡ numberAt 2 (at + 12) s → len ≡ numberAt 2 (at + 14) s
     → record {
-      failed = failed;
+      failed = record { bits = failed };
       code = code;
       row = getD s (at + 10) 0;
       status = getD s (at + 11) 0;
@@ -119,12 +119,12 @@ module _ (at : ℕ) (a : Answer) (s : List ℕ) (fits : at + answerSize ≤ leng
   abbrev fromBooked : List ℕ
   fromBooked = lowBytes 2 (a .booked) ++ (lowBytes 2 (a .length) ++ drop answerSize (drop at s))
 
-  failed-stands : drop at written ≡ lowBytes 8 (a .failed) ++ (lowBytes 2 (a .code) ++ (a .row ∷ a .status ∷ fromBooked))
+  failed-stands : drop at written ≡ lowBytes 8 (a .failed .bits) ++ (lowBytes 2 (a .code) ++ (a .row ∷ a .status ∷ fromBooked))
   unfolding answerBytes
   failed-stands = answer-stands ∙ simp append-assoc
 
   code-stands : drop (at + 8) written ≡ lowBytes 2 (a .code) ++ (a .row ∷ a .status ∷ fromBooked)
-  code-stands = stands-behind (lowBytes 8 (a .failed)) 8 at (at + 8) written _ (low-length 8 _) refl failed-stands
+  code-stands = stands-behind (lowBytes 8 (a .failed .bits)) 8 at (at + 8) written _ (low-length 8 _) refl failed-stands
 
   row-stands : drop (at + 10) written ≡ a .row ∷ a .status ∷ fromBooked
   row-stands = stands-behind (lowBytes 2 (a .code)) 2 (at + 8) (at + 10) written _ (low-length 2 _) (omega arith) code-stands
@@ -138,12 +138,12 @@ module _ (at : ℕ) (a : Answer) (s : List ℕ) (fits : at + answerSize ≤ leng
   length-stands : drop (at + 14) written ≡ lowBytes 2 (a .length) ++ drop answerSize (drop at s)
   length-stands = stands-behind (lowBytes 2 (a .booked)) 2 (at + 12) (at + 14) written _ (low-length 2 _) (omega arith) booked-stands
 
-  pub answer-read : a .failed < 2 ^ 64 → a .code < 65536 → a .row < 256 → a .status < 256 → a .booked < 65536 → a .length < 65536
+  pub answer-read : a .failed .bits < 2 ^ 64 → a .code < 65536 → a .row < 256 → a .status < 256 → a .booked < 65536 → a .length < 65536
       → answerAt at (answerPut at a s) ≡ a
   answer-read hf hc _ _ hb hl =
       let room : at + answerSize ≤ length written = rw answer-put-length fits in
-      let failed : numberAt 8 at written ≡ a .failed
-      = number-stands 8 at (a .failed) written _ (omega arith) (omega arith) failed-stands in
+      let failed : numberAt 8 at written ≡ a .failed .bits
+      = number-stands 8 at (a .failed .bits) written _ (omega arith) (omega arith) failed-stands in
       let code : numberAt 2 (at + 8) written ≡ a .code
       = number-stands 2 (at + 8) (a .code) written _ (omega arith) (omega arith) code-stands in
       let booked : numberAt 2 (at + 12) written ≡ a .booked

@@ -6,6 +6,7 @@ use mathlib.Core.List.{List, [], _∷_, _++_}
 use lib.Dec.{leb}
 use lib.ListN.{length, getD, take, drop}
 use Rattle.text.specs.Number.{lowBytes, numberAt}
+use Rattle.failures.specs.Failures.{noFailure}
 use Rattle.answer.specs.declared.Answer.{Answer}
 
 -- bytes of an answer record
@@ -15,7 +16,7 @@ answerSize = 16
 -- bytes 0-7 the set of failed checks, 8-9 the code, 10 the reporter row, 11 what became of the record, 12-13 the new row, 14-15 the record's length
 unfoldable pub answerBytes : Answer → List ℕ
 answerBytes a =
-    lowBytes 8 (a .failed) ++ (lowBytes 2 (a .code) ++ (a .row ∷ a .status ∷ (lowBytes 2 (a .booked) ++ lowBytes 2 (a .length))))
+    lowBytes 8 (a .failed .bits) ++ (lowBytes 2 (a .code) ++ (a .row ∷ a .status ∷ (lowBytes 2 (a .booked) ++ lowBytes 2 (a .length))))
 
 -- the list with an answer record from a place on; as it was where there is no room
 unfoldable pub answerPut : ℕ → Answer → List ℕ → List ℕ
@@ -23,14 +24,14 @@ answerPut at a s = cond (leb (at + answerSize) (length s)) (take at s ++ (answer
 
 -- an answer record of zeros
 abbrev pub zeroAnswer : Answer
-zeroAnswer = record { failed = 0; code = 0; row = 0; status = 0; booked = 0; length = 0 }
+zeroAnswer = record { failed = noFailure; code = 0; row = 0; status = 0; booked = 0; length = 0 }
 
 -- the answer record from a place on; zeros where it is not all there
 unfoldable pub answerAt : ℕ → List ℕ → Answer
 answerAt at s =
     cond (leb (at + answerSize) (length s))
     (record {
-      failed = numberAt 8 at s;
+      failed = record { bits = numberAt 8 at s };
       code = numberAt 2 (at + 8) s;
       row = getD s (at + 10) 0;
       status = getD s (at + 11) 0;

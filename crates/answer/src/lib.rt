@@ -2,9 +2,10 @@
 ghost use mathlib.Core.Path.{_≡_};
 ghost use lib.ListN.{length};
 ghost use Rattle.answer.specs.Answer.{answerSize, answerBytes, answerPut, zeroAnswer, answerAt};
+use failures::Failures;
 
 // The bytes of an answer record.
-pub const ANSWER_SIZE: usize = 16;
+pub const SIZE: usize = 16;
 
 // The reporter's row of a record that passes for no bank.
 pub const NO_REPORTER: u8 = 255;
@@ -14,8 +15,8 @@ pub const BOOKED: u8 = 0;
 
 // What a call answers to a record.
 pub struct Answer {
-    // The set of failed checks, bit k for place k.
-    pub failed: u64,
+    // The set of failed checks.
+    pub failed: Failures,
     // The code at the lowest failed place, 0 if none.
     pub code: u16,
     // The reporter's row, 255 if places 0 to 6 failed.
@@ -33,7 +34,8 @@ fn fill(w: &mut [u8], a: Answer)
     requires { ⌜ length (now w) ≡ answerSize ⌝ }
     ensures { λ r. ⌜ now (w .exit) ≡ answerBytes a ⌝ }
 {
-    text::write_u64(w, 0, a.failed);
+    let failed = a.failed;
+    text::write_u64(w, 0, failed.bits);
     text::write_u16(w, 8, a.code);
     w[10] = a.row;
     w[11] = a.status;
@@ -45,13 +47,13 @@ fn fill(w: &mut [u8], a: Answer)
 pub fn write(a: Answer, out: &mut [u8], at: usize)
     ensures { λ r. ⌜ now (out .exit) ≡ answerPut at a (now (out .entry)) ⌝ }
 {
-    if out.len() < ANSWER_SIZE {
+    if out.len() < SIZE {
         return;
     }
-    if out.len() - ANSWER_SIZE < at {
+    if out.len() - SIZE < at {
         return;
     }
-    fill(&mut out[at..at + ANSWER_SIZE], a);
+    fill(&mut out[at..at + SIZE], a);
 }
 
 // The answer of zeros.
@@ -59,7 +61,7 @@ fn zeros() -> Answer
     ensures { λ r. ⌜ r ≡ zeroAnswer ⌝ }
 {
     Answer {
-        failed: 0,
+        failed: Failures::none(),
         code: 0,
         row: 0,
         status: 0,
@@ -72,14 +74,16 @@ fn zeros() -> Answer
 pub fn read(s: &[u8], at: usize) -> Answer
     ensures { λ r. ⌜ r ≡ answerAt at (now (s .entry)) ⌝ }
 {
-    if s.len() < ANSWER_SIZE {
+    if s.len() < SIZE {
         return zeros();
     }
-    if s.len() - ANSWER_SIZE < at {
+    if s.len() - SIZE < at {
         return zeros();
     }
     Answer {
-        failed: text::read_u64(s, at),
+        failed: Failures {
+            bits: text::read_u64(s, at),
+        },
         code: text::read_u16(s, at + 8),
         row: s[at + 10],
         status: s[at + 11],

@@ -6,7 +6,7 @@ use mathlib.Core.Bool.{Bool, true, false, cond}
 use mathlib.Core.List.{List, [], _++_}
 use mathlib.Core.Logic.{_≢_}
 use mathlib.Core.Path.{_≡_, refl, ap, sym, _∙_}
-use borrow.Author.Tests.{eq-eqb, ne-eqb, leb-true}
+use borrow.Author.Tests.{leb-true}
 use lib.Dec.{eqb, leb}
 use lib.ListN.{length, take, drop}
 use Rattle.frame.specs.Every.{least}
@@ -20,6 +20,7 @@ use Rattle.frame.proofs.ReplyLaws.{unless-holds, unless-none, unless-never, fir
 use Rattle.frame.proofs.Isolation.{single-refused, single-stranger, single-step}
 use Rattle.identifier.specs.Identifier.{nameUpTo}
 use Rattle.failures.specs.declared.Failures.{Failures}
+use Rattle.failures.specs.Failures.{isEmpty}
 use Rattle.fields.specs.Fields.{isWhole, fieldOf, fieldBy, stopsOf, isWholeIndex}
 use Rattle.fields.proofs.FieldLaws.{field-by, whole-index}
 use Rattle.tables.specs.Reporters.{reportersOk}
@@ -104,10 +105,13 @@ passed-bank tables call ok e =
     let s = call .«record» in
     omega (arith, rows-below (tables .reporters) ok, passed-row (tables .reporters) (call .sender) (isWhole s) (fieldOf s 1) (fieldOf s 2) e .1)
 
--- places 7 to 60 on what the index gives, with a search of the currency list in order
+-- the failures of places 7 to 60
+abbrev pub failuresTo60 : Tables → ℕ → List ℕ → Failures
+failuresTo60 tables row s = recordFailures (tables .reporters) (isMoney (tables .currencies)) row (fieldOf s)
+
+-- these on what the index gives, with a search of the currency list in order
 pub record-same : (tables : Tables) (row : ℕ) (s stops : List ℕ) → stops ≡ stopsOf s → currenciesOk (tables .currencies) ≡ true
-    → recordFailures (tables .reporters) (foundMoney (tables .currencies)) row (fieldBy s stops)
-    ≡ recordFailures (tables .reporters) (isMoney (tables .currencies)) row (fieldOf s)
+    → recordFailures (tables .reporters) (foundMoney (tables .currencies)) row (fieldBy s stops) ≡ failuresTo60 tables row s
 record-same tables row s stops e ok =
     λ i. recordFailures (tables .reporters) (λ f. found-money (tables .currencies) f ok i) row (λ n. indexed s stops e n i)
 
@@ -125,29 +129,28 @@ free-small c f16 f39 e = rw e (omega (arith, free-row-le c))
 
 -- the step: what it has judged decides its answer and the compartment afterwards
 module _ (tables : Tables) (row : ℕ) (s c : List ℕ) where
-  pub failures-judged : {failed : Failures} → failed ≡ recordFailures (tables .reporters) (isMoney (tables .currencies)) row (fieldOf s) → (failed .bits ≡ 0 → ⊥)
-      → failed ≡ stepFailures tables row s c
+  pub failures-judged : {failed : Failures} → failed ≡ failuresTo60 tables row s → isEmpty failed ≡ false → failed ≡ stepFailures tables row s c
   unfolding stepFailures failuresFrom7
-  failures-judged e n = e ∙ rw (ne-eqb _ 0 (λ z. n (ap (λ (f : Failures). f .bits) e ∙ z))) refl
+  failures-judged e n = e ∙ rw (sym (ap isEmpty e) ∙ n) refl
 
-  pub failures-found : {judged failed : Failures} {found : Booking} → judged ≡ recordFailures (tables .reporters) (isMoney (tables .currencies)) row (fieldOf s) → judged .bits ≡ 0
+  pub failures-found : {judged failed : Failures} {found : Booking} → judged ≡ failuresTo60 tables row s → isEmpty judged ≡ true
       → found ≡ foundRows tables row s c → failed ≡ found .failed → failed ≡ stepFailures tables row s c
   unfolding stepFailures failuresFrom7
-  failures-found e z g f = f ∙ ap (λ (b : Booking). b .failed) g ∙ rw (eq-eqb _ 0 (sym (ap (λ (x : Failures). x .bits) e) ∙ z)) refl
+  failures-found e z g f = f ∙ ap (λ (b : Booking). b .failed) g ∙ rw (sym (ap isEmpty e) ∙ z) refl
 
-  pub step-failed : {failed : Failures} {a : Answer} → failed ≡ stepFailures tables row s c → (failed .bits ≡ 0 → ⊥)
+  pub step-failed : {failed : Failures} {a : Answer} → failed ≡ stepFailures tables row s c → isEmpty failed ≡ false
       → a ≡ answerOf failed row noRow s → (a ≡ stepAnswer tables row s c) × (c ≡ stepCompartment tables row s c)
   unfolding stepAnswer stepCompartment
-  step-failed {failed} e n h =
-      let z : eqb (stepFailures tables row s c .bits) 0 ≡ false = rw (← e) (ne-eqb (failed .bits) 0 n) in
+  step-failed e n h =
+      let z : isEmpty (stepFailures tables row s c) ≡ false = rw (← e) n in
       (h ∙ rw (e, z) refl, rw z refl)
 
-  pub step-booked : {failed : Failures} {found : Booking} {a : Answer} {d : List ℕ} → failed ≡ stepFailures tables row s c → failed .bits ≡ 0
+  pub step-booked : {failed : Failures} {found : Booking} {a : Answer} {d : List ℕ} → failed ≡ stepFailures tables row s c → isEmpty failed ≡ true
       → found ≡ foundRows tables row s c → a ≡ answerOf failed row (found .free) s → d ≡ bookedAs (found .free) (found .named) s c
       → (a ≡ stepAnswer tables row s c) × (d ≡ stepCompartment tables row s c)
   unfolding stepAnswer stepCompartment
-  step-booked {failed} e n g h k =
-      let z : eqb (stepFailures tables row s c .bits) 0 ≡ true = rw (← e) (eq-eqb (failed .bits) 0 n) in
+  step-booked e n g h k =
+      let z : isEmpty (stepFailures tables row s c) ≡ true = rw (← e) n in
       (h ∙ rw (e, z, g) refl, k ∙ rw (z, g) refl)
 
 -- The three outcomes of a call, on the ledger that it is lent.

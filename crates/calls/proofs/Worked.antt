@@ -24,7 +24,7 @@ use Rattle.decimal.specs.Decimal.{decimalOf, decimalAt, wholeOnly, wholeAndPart
 use Rattle.calendar.specs.Calendar.{digitsExactly, realDate, realDay, daysIn, realMinute, realSecond}
 use Rattle.identifier.specs.Identifier.{bankCode, swiftForm, completed, sameAddress, nameUpTo}
 use Rattle.identifier.specs.Isin.{isinForm, letterValue, digitsOf, digits, weighted, digitSum, checkDigitRight}
-use Rattle.failures.specs.Failures.{holds, added, addedFrom}
+use Rattle.failures.specs.Failures.{holds, isEmpty, added, addedFrom}
 use Rattle.failures.specs.Codes.{codes, codeAt}
 use Rattle.fields.specs.Fields.{semicolonsFrom, isWhole, fieldStart, fieldEnd, fieldPlace, fieldOf}
 use Rattle.fields.specs.Forms.{letter}
@@ -125,7 +125,7 @@ on-zeros s form row =
 -- what the step computes of R1 and R5 on a compartment of zeros
 passed-rows : map (λ s. rowOf (checkedOf workedTables (called workedSender s))) (r1 ∷ r5 ∷ []) ≡ 0 ∷ 0 ∷ []
 unfolding workedRecord workedReporters checkedOf senderCheck senderTests reporterTests reporterRow rowByCode rowByAddress hasCode hasMailbox mailboxOf isWhole
-    semicolonsFrom fieldStart fieldEnd fieldPlace fieldOf letter same positionOf part least added addedFrom holds
+    semicolonsFrom fieldStart fieldEnd fieldPlace fieldOf letter same positionOf part least added addedFrom holds isEmpty
 passed-rows = refl
 
 in-form : map recordForm (r1 ∷ r5 ∷ []) ≡ true ∷ true ∷ []
@@ -138,8 +138,8 @@ stepped s = (answerBytes (stepAnswer workedTables 0 s zeros), stepCompartment wo
 steps : map stepped (r1 ∷ r5 ∷ []) ≡ (r1Answer, r1Row ++ replicate (compartmentSize - rowSize) 0) ∷ (r5Answer, zeros) ∷ []
 unfolding workedRecord workedReporters workedCurrencies r1Answer r5Answer r1Row least part put all same positionOf decimalOf decimalAt wholeOnly wholeAndPart
     digitsUpTo digitsValueAfter digitsExactly realDate realDay daysIn realSecond bankCode swiftForm completed sameAddress nameUpTo isinForm letterValue
-    digitsOf digits weighted digitSum checkDigitRight holds added addedFrom codes codeAt isWhole semicolonsFrom fieldStart fieldEnd fieldPlace fieldOf letter
-    hasCode hasAddress isSpecial isMoney isAmong lacksForm sameParty clientTests venueForm tradeTests instrumentTests termsTests namesOwn capacityTests
+    digitsOf digits weighted digitSum checkDigitRight holds isEmpty added addedFrom codes codeAt isWhole semicolonsFrom fieldStart fieldEnd fieldPlace fieldOf
+    letter hasCode hasAddress isSpecial isMoney isAmong lacksForm sameParty clientTests venueForm tradeTests instrumentTests termsTests namesOwn capacityTests
     derivativeTests markTests asksUnderlying isMissing isTheme presentTests underlyingTests clientGroup tradeGroup instrumentGroup termsGroup
     capacityGroup derivativeGroup underlyingGroup marksGroup recordTests recordFailures padded newRow entered canBook booked lowBytes numberAt littleEndian
     freeRow rowByNumber liveRow namedRow bookingTests bookingOf failuresFrom7 statusAt stepFailures answerOf stepAnswer bookedAs stepCompartment answerBytes
@@ -173,7 +173,7 @@ module _ (room : ℕ) (one : answerSize ≤ room) where
 
 -- the call of the empty record: it fails at place 0, and is answered whatever the ledger holds
 blank-called : calledAlone [] ≡ record { reply = accepted blankAnswer; store = emptyLedger }
-unfolding blankAnswer recordForm all lowBytes checkedOf senderCheck senderTests isWhole semicolonsFrom added addedFrom holds answerOf codes codeAt
+unfolding blankAnswer recordForm all lowBytes checkedOf senderCheck senderTests isWhole semicolonsFrom added addedFrom holds isEmpty answerOf codes codeAt
     statusAt trailingZeros answerBytes
 blank-called = single-stranger (rules workedTables) (called workedSender []) emptyLedger (not-refused [] refl) (omega arith)
 

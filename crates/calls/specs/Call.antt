@@ -3,7 +3,7 @@
 use Prim.Native.Nat.{ℕ}
 use mathlib.Core.Bool.{Bool, _&&_, cond}
 use mathlib.Core.List.{List, [], _∷_}
-use lib.Dec.{leb, eqb}
+use lib.Dec.{leb}
 use lib.ListN.{length}
 use Rattle.frame.specs.Reply.{unless, firstOf}
 use Rattle.text.specs.Class.{isRecordByte}
@@ -11,7 +11,7 @@ use Rattle.text.specs.Bytes.{all}
 use Rattle.identifier.specs.Identifier.{nameUpTo}
 use Rattle.decimal.specs.Decimal.{decimalOf, valueOf}
 use Rattle.failures.specs.declared.Failures.{Failures}
-use Rattle.failures.specs.Failures.{noFailure, firstPlace}
+use Rattle.failures.specs.Failures.{noFailure, isEmpty, firstPlace}
 use Rattle.failures.specs.Codes.{codeAt}
 use Rattle.fields.specs.Fields.{isWhole, fieldOf}
 use Rattle.fields.specs.Forms.{letter}
@@ -75,7 +75,7 @@ failedOf (Failed failed) = failed
 unfoldable pub answerOf : Failures → ℕ → ℕ → List ℕ → Answer
 answerOf failed row new «record» =
     record {
-      failed = failed .bits;
+      failed = failed;
       code = codeAt (firstPlace failed);
       row = row;
       status = statusOf failed;
@@ -97,10 +97,10 @@ module _ (tables : Tables) (row : ℕ) («record» c : List ℕ) where
   stepFailures = failuresFrom7 (tables .reporters) (isMoney (tables .currencies)) row (fieldOf «record») c
 
   unfoldable pub stepAnswer : Answer
-  stepAnswer = answerOf stepFailures row (cond (eqb (stepFailures .bits) 0) (foundRows .free) noRow) «record»
+  stepAnswer = answerOf stepFailures row (cond (isEmpty stepFailures) (foundRows .free) noRow) «record»
 
   unfoldable pub stepCompartment : List ℕ
-  stepCompartment = cond (eqb (stepFailures .bits) 0) (bookedAs (foundRows .free) (foundRows .named) «record» c) c
+  stepCompartment = cond (isEmpty stepFailures) (bookedAs (foundRows .free) (foundRows .named) «record» c) c
 
 -- the call of a sender with a record
 abbrev pub called : List ℕ → List ℕ → Call

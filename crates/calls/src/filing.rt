@@ -8,7 +8,6 @@ ghost use Rattle.calls.specs.Replied.{filedAs};
 ghost use Rattle.calls.specs.Filing.{lentRefusal, fileOutcome, carriedOut, fileOf};
 ghost use Rattle.calls.specs.FileSteps.{callsFrom, Ready, Taken, Open};
 use crate::admitted;
-use answer::ANSWER_SIZE;
 use envelope::Opened;
 use envelope::Piece;
 
@@ -60,7 +59,7 @@ fn take_record<'a>(
     };
     let end = next - 2;
     let a = admitted(reporters, currencies, ledger, sender, &body[at..end]);
-    answer::write(a, answers, k * ANSWER_SIZE);
+    answer::write(a, answers, k * answer::SIZE);
     next
 }
 
@@ -116,7 +115,7 @@ pub fn file_call<'a>(
     let Opened::Report(l) = opened else {
         return Filed::Refused(refusal_in(opened));
     };
-    if answers.len() < l.records * ANSWER_SIZE {
+    if answers.len() < l.records * answer::SIZE {
         return Filed::Refused(12);
     }
     let sender_start = l.sender;

@@ -85,7 +85,7 @@ fn answer_of(failed: Failures, row: usize, new: usize, record: &[u8]) -> Answer
     ensures { λ r. ⌜ r ≡ answerOf failed row new (now («record» .entry)) ⌝ }
 {
     Answer {
-        failed: failed.bits,
+        failed: failed,
         code: failed.code(),
         row: row as u8,
         status: checks::status(failed),
@@ -135,12 +135,12 @@ fn step<'a>(
         (now (c .entry)) ⌝ }
 {
     let judged = checks::judge(reporters, currencies, row, record, stops);
-    if judged.bits != 0 {
+    if !judged.is_empty() {
         return answer_of(judged, row, NO_ROW, record);
     }
     let found = checks::judge_booking(c, part(record, stops, 16), part(record, stops, 39));
     let failed = found.failed;
-    if failed.bits != 0 {
+    if !failed.is_empty() {
         return answer_of(failed, row, NO_ROW, record);
     }
     let free = found.free;

@@ -6,7 +6,6 @@ ghost use Rattle.tables.specs.Tables.{tablesOf};
 ghost use Rattle.ledger.specs.Sound.{ledgerFlaw};
 ghost use Rattle.calls.specs.Call.{called, refusalOf};
 ghost use Rattle.capi.specs.Exported.{exported, recordExport, fileExport, shortNumber, fieldNumbers, fieldExport};
-use answer::ANSWER_SIZE;
 use calls::Replied;
 use calls::filing::Filed;
 use text::wide;
@@ -43,7 +42,7 @@ pub extern "C" fn roselhanda_record<'a>(
         ≡ recordExport (tablesOf (now (reporters .entry)) (now (currencies .entry))) (now (sender .entry)) (now («record» .entry)) (now (ledger .entry))
         (now (answer .entry)) ⌝ }
 {
-    if answer.len() < ANSWER_SIZE {
+    if answer.len() < answer::SIZE {
         return short_call(reporters, currencies, ledger, sender, record);
     }
     match calls::record_call(reporters, currencies, ledger, sender, record) {

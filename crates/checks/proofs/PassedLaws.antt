@@ -12,7 +12,7 @@ use lib.Seq.{getD-append-add}
 use Rattle.frame.specs.Every.{least}
 use Rattle.frame.proofs.LeastLaws.{least-le}
 use Rattle.identifier.specs.Identifier.{nameUpTo}
-use Rattle.failures.specs.declared.Failures.{Failures}
+use Rattle.failures.specs.Failures.{isEmpty}
 use Rattle.failures.proofs.FailureLaws.{none-failed}
 use Rattle.fields.specs.Forms.{blank, letter}
 use Rattle.ledger.specs.Row.{live, numberRoom, state, isSide}
@@ -36,7 +36,7 @@ use Rattle.checks.proofs.RecordLaws.{underlying-length, record-length}
 behind : (ts us : List Bool) (n k : ℕ) → length ts ≡ n → getD (ts ++ us) (n + k) false ≡ getD us k false
 behind ts us n k e = subst (λ (m : ℕ). getD (ts ++ us) (m + k) false ≡ getD us k false) e (getD-append-add ts us k false)
 
-module _ (reporters : List ℕ) (money : List ℕ → Bool) (row : ℕ) (F : ℕ → List ℕ) (passed : recordFailures reporters money row F .bits ≡ 0) where
+module _ (reporters : List ℕ) (money : List ℕ → Bool) (row : ℕ) (F : ℕ → List ℕ) (passed : isEmpty (recordFailures reporters money row F) ≡ true) where
   -- none of places 7 to 60 fails
   none : (k : ℕ) → getD (recordTests reporters money row F) k false ≡ false
   unfolding recordFailures
@@ -53,7 +53,7 @@ module _ (reporters : List ℕ) (money : List ℕ → Bool) (row : ℕ) (F : ℕ
       termsTests capacityTests derivativeTests markTests
   number-passed = not-false _ (sym (behind (underlyingGroup F) (marksGroup F) 7 1 (underlying-length F)) ∙ none 53)
 
-module _ (c f16 f39 : List ℕ) (passed : bookingOf c f16 f39 .failed .bits ≡ 0) where
+module _ (c f16 f39 : List ℕ) (passed : isEmpty (bookingOf c f16 f39 .failed) ≡ true) where
   -- none of places 61 to 63 fails
   open-booking : (k : ℕ) → getD (bookingTests c f16 f39) k false ≡ false
   unfolding bookingOf bookingTests

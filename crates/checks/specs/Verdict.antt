@@ -4,9 +4,9 @@
 use Prim.Native.Nat.{ℕ}
 use mathlib.Core.Bool.{Bool, cond}
 use mathlib.Core.List.{List}
-use lib.Dec.{ltb, eqb}
+use lib.Dec.{ltb}
 use Rattle.failures.specs.declared.Failures.{Failures}
-use Rattle.failures.specs.Failures.{firstPlace}
+use Rattle.failures.specs.Failures.{isEmpty, firstPlace}
 use Rattle.checks.specs.declared.Booking.{Booking}
 use Rattle.checks.specs.Record.{recordFailures}
 use Rattle.checks.specs.Booking.{bookingOf}
@@ -14,7 +14,7 @@ use Rattle.checks.specs.Booking.{bookingOf}
 -- places 7 to 60, and 61 to 63 only if all before pass
 unfoldable pub failuresFrom7 : List ℕ → (List ℕ → Bool) → ℕ → (ℕ → List ℕ) → List ℕ → Failures
 failuresFrom7 reporters money row F c =
-    let judged = recordFailures reporters money row F in cond (eqb (judged .bits) 0) (bookingOf c (F 16) (F 39) .failed) judged
+    let judged = recordFailures reporters money row F in cond (isEmpty judged) (bookingOf c (F 16) (F 39) .failed) judged
 
 -- 0 booked; 1 places 0-6, 2 places 7-60, 3 places 61-63
 unfoldable pub statusAt : ℕ → ℕ

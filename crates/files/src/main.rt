@@ -6,7 +6,7 @@ mod edit;
 use disk::load_or_fail;
 
 // The bytes of the answer buffer, where a case says nothing else: as many as 1,025 answers take.
-const ANSWER_ROOM: usize = 16400;
+const ANSWER_ROOM: usize = 1025 * answer::SIZE;
 
 // Fills a buffer with a pattern, so that a byte that is cleared or moved shows.
 fn fill(buffer: &mut [u8]) {

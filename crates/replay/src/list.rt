@@ -2,10 +2,10 @@
 use crate::banks::BANKS;
 use crate::drawn::Call;
 use crate::print::print_count;
-use answer::ANSWER_SIZE;
 use answer::Answer;
 use answer::BOOKED;
 use calls::Replied;
+use failures::Failures;
 use ledger::COMPARTMENT_SIZE;
 use libc::STDOUT_FILENO;
 
@@ -29,7 +29,7 @@ fn answer_of(reply: Replied) -> Answer {
     match reply {
         Replied::Answered(a) => a,
         Replied::Refused(n) => Answer {
-            failed: 0,
+            failed: Failures::none(),
             code: n as u16,
             row: 255,
             status: REFUSED,
@@ -56,7 +56,7 @@ fn run_list(reporters: &[u8], ledger: &mut [u8], answers: &mut [u8]) {
     let mut k = 0;
     while k < CALLS {
         let a = answer_to(reporters, ledger, crate::drawn::call_of(seed));
-        answer::write(a, answers, k * ANSWER_SIZE);
+        answer::write(a, answers, k * answer::SIZE);
         seed = crate::drawn::next(seed);
         k += 1;
     }
@@ -64,7 +64,7 @@ fn run_list(reporters: &[u8], ledger: &mut [u8], answers: &mut [u8]) {
 
 // Whether an answer is the one that is kept.
 fn is_kept(a: Answer, kept: &[u8]) -> bool {
-    let mut bytes = [0u8; ANSWER_SIZE];
+    let mut bytes = [0u8; answer::SIZE];
     answer::write(a, &mut bytes, 0);
     text::same(&bytes, kept)
 }
@@ -109,7 +109,7 @@ fn step<'a>(
 
 // The sixteen bytes that are kept for call k.
 fn kept_for(answers: &[u8], k: usize) -> &[u8] {
-    text::front(text::rest(answers, k % CALLS * ANSWER_SIZE), ANSWER_SIZE)
+    text::front(text::rest(answers, k % CALLS * answer::SIZE), answer::SIZE)
 }
 
 // Makes the calls that are steps of the bank.

@@ -1,7 +1,6 @@
 // The worked records, called one by one on a ledger.
 use crate::print::print_bytes;
 use crate::print::print_count;
-use answer::ANSWER_SIZE;
 use answer::Answer;
 use calls::Replied;
 use ledger::ROW_COUNT;
@@ -10,7 +9,7 @@ use libc::STDOUT_FILENO;
 
 // Prints the sixteen bytes of an answer.
 fn print_answer(a: Answer) {
-    let mut bytes = [0u8; ANSWER_SIZE];
+    let mut bytes = [0u8; answer::SIZE];
     answer::write(a, &mut bytes, 0);
     print_bytes(&bytes);
 }

@@ -17,7 +17,7 @@ const CURRENCIES_ROOM: usize = 1537;
 const LEDGER_ROOM: usize = 32769;
 
 // Room for the answers to 1,024 records, and for the lines that tell of them.
-const ANSWERS_ROOM: usize = 16384;
+const ANSWERS_ROOM: usize = 1024 * answer::SIZE;
 
 const PAGE_ROOM: usize = 20505;
 

@@ -3,10 +3,10 @@
 use Prim.Native.Nat.{ℕ, zero, suc, _*_}
 use mathlib.Core.Bool.{Bool, cond}
 use mathlib.Core.List.{List, [], _∷_, _++_}
-use lib.Count.{ones}
 use lib.Dec.{eqb}
 use Rattle.frame.specs.Every.{howMany}
 use Rattle.text.specs.Text.{bytes}
+use Rattle.failures.specs.Failures.{failureCount}
 use Rattle.answer.specs.declared.Answer.{Answer}
 use Rattle.answer.specs.Answer.{answerSize, answerAt}
 use Rattle.page.specs.Number.{numberText, codeText}
@@ -22,7 +22,7 @@ rowText row = cond (eqb row 255) (bytes "-") (numberText row)
 -- "A line is number, first code, failures, reporter row or `-`."
 unfoldable pub lineText : ℕ → Answer → List ℕ
 lineText number a =
-    numberText number ++ bytes " " ++ codeText (a .code) ++ bytes " " ++ numberText (ones (a .failed)) ++ bytes " " ++ rowText (a .row)
+    numberText number ++ bytes " " ++ codeText (a .code) ++ bytes " " ++ numberText (failureCount (a .failed)) ++ bytes " " ++ rowText (a .row)
     ++ lineFeed
 
 -- the lines of n records, numbered from 1

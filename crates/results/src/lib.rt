@@ -4,11 +4,9 @@ ghost use Prim.Native.Nat.{_*_};
 ghost use Rattle.answer.specs.Answer.{answerSize, answerAt};
 ghost use Rattle.page.specs.Page.{page, appended};
 ghost use Rattle.results.specs.Results.{rowText, lineText, linesText, bookedCount, acceptedText, refusedText};
-use answer::ANSWER_SIZE;
 use answer::Answer;
 use answer::BOOKED;
 use answer::NO_REPORTER;
-use failures::Failures;
 use page::append;
 use page::append_code;
 use page::append_number;
@@ -17,8 +15,8 @@ use page::append_number;
 fn answer_to(answers: &[u8], k: usize) -> Answer
     ensures { λ r. ⌜ r ≡ answerAt (k * answerSize) (now (answers .entry)) ⌝ }
 {
-    if k < answers.len() / ANSWER_SIZE {
-        return answer::read(answers, k * ANSWER_SIZE);
+    if k < answers.len() / answer::SIZE {
+        return answer::read(answers, k * answer::SIZE);
     }
     answer::read(answers, answers.len())
 }
@@ -37,7 +35,7 @@ fn append_row(out: &mut [u8], at: usize, row: u8) -> usize
 fn append_line(out: &mut [u8], at: usize, number: u64, a: Answer) -> usize
     ensures { λ r. ⌜ page (now (out .exit)) r ≡ appended (page (now (out .entry)) at) (lineText number a) ⌝ }
 {
-    let failed = Failures { bits: a.failed };
+    let failed = a.failed;
     let mut end = append_number(out, at, number);
     end = append(out, end, b" ");
     end = append_code(out, end, a.code);

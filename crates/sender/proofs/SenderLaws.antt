@@ -6,11 +6,11 @@ use native.Mathlib.Omega.{arith}
 use mathlib.Core.Bool.{Bool, true, false, _&&_, _||_, not, cond, false≢true}
 use mathlib.Core.List.{List}
 use mathlib.Core.Path.{_≡_, refl, sym}
-use borrow.Author.Tests.{ltb-true, eqb-true, eqb-false}
-use lib.Dec.{eqb, lit≤}
+use borrow.Author.Tests.{ltb-true}
+use lib.Dec.{lit≤}
 use lib.ListN.{length, getD}
 use Rattle.failures.specs.declared.Failures.{Failures}
-use Rattle.failures.specs.Failures.{addedFrom, noFailure, firstPlace}
+use Rattle.failures.specs.Failures.{addedFrom, noFailure, isEmpty, firstPlace}
 use Rattle.failures.proofs.FailureLaws.{none-failed, first-below}
 use Rattle.fields.specs.Forms.{blank, is}
 use Rattle.tables.specs.Reporters.{reporterCount, hasMailbox}
@@ -61,20 +61,20 @@ module _ (reporters sender : List ℕ) (whole : Bool) (f1 f2 : List ℕ) where
   passed-row {r} e =
       let tests = senderTests reporters sender whole f1 f2 in
       let failed = addedFrom noFailure 0 tests in
-      let (empty, here) = passed-empty (eqb (failed .bits) 0) failed (reporterRow reporters f1 f2) r e in
+      let (empty, here) = passed-empty (isEmpty failed) failed (reporterRow reporters f1 f2) r e in
       let l : length tests ≤ 7 = tests-length reporters sender whole f1 f2 in
-      let (all, found, sent) = none-fails reporters sender whole f1 f2 (none-failed tests 0 (eqb-true _ _ empty) (omega arith)) in
+      let (all, found, sent) = none-fails reporters sender whole f1 f2 (none-failed tests 0 empty (omega arith)) in
       (here, rw here (ltb-true _ _ found), all, rw here sent)
 
   failed-set : {s : Failures} → senderCheck reporters sender whole f1 f2 ≡ Failed s
-      → (s ≡ addedFrom noFailure 0 (senderTests reporters sender whole f1 f2)) × (s .bits ≡ 0 → ⊥)
+      → (s ≡ addedFrom noFailure 0 (senderTests reporters sender whole f1 f2)) × (isEmpty s ≡ false)
   unfolding senderCheck
   failed-set {s} e =
       let failed = addedFrom noFailure 0 (senderTests reporters sender whole f1 f2) in
-      let (some, here) = failed-not-empty (eqb (failed .bits) 0) failed s (reporterRow reporters f1 f2) e in
-      (here, rw here (eqb-false _ _ some))
+      let (some, here) = failed-not-empty (isEmpty failed) failed s (reporterRow reporters f1 f2) e in
+      (here, rw here some)
 
-  pub failed-some : {s : Failures} → senderCheck reporters sender whole f1 f2 ≡ Failed s → s .bits ≡ 0 → ⊥
+  pub failed-some : {s : Failures} → senderCheck reporters sender whole f1 f2 ≡ Failed s → isEmpty s ≡ false
   failed-some e = failed-set e .1
 
   pub failed-first : {s : Failures} → senderCheck reporters sender whole f1 f2 ≡ Failed s → firstPlace s < 7

@@ -3,8 +3,8 @@
 use Prim.Native.Nat.{ℕ}
 use mathlib.Core.Bool.{Bool, true, false, _&&_, not, cond}
 use mathlib.Core.List.{List, [], _∷_}
-use lib.Dec.{ltb, eqb}
-use Rattle.failures.specs.Failures.{addedFrom, noFailure}
+use lib.Dec.{ltb}
+use Rattle.failures.specs.Failures.{addedFrom, noFailure, isEmpty}
 use Rattle.fields.specs.Forms.{blank, filled, is, oneOf}
 use Rattle.tables.specs.Reporters.{reporterCount, rowByCode, rowByAddress, hasMailbox}
 use Rattle.sender.specs.declared.Checked.{Checked}
@@ -45,4 +45,4 @@ senderTests reporters sender whole f1 f2 =
 unfoldable pub senderCheck : List ℕ → List ℕ → Bool → List ℕ → List ℕ → Checked
 senderCheck reporters sender whole f1 f2 =
     let failed = addedFrom noFailure 0 (senderTests reporters sender whole f1 f2) in
-    cond (eqb (failed .bits) 0) (Passed (reporterRow reporters f1 f2)) (Failed failed)
+    cond (isEmpty failed) (Passed (reporterRow reporters f1 f2)) (Failed failed)

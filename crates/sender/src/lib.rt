@@ -75,7 +75,7 @@ pub fn check<'a>(
     }
     let row = reporter_row(reporters, f1, f2);
     let failed = reporter_failures(reporters, sender, f1, f2, row);
-    if failed.bits == 0 {
+    if failed.is_empty() {
         Checked::Passed(row)
     } else {
         Checked::Failed(failed)

@@ -1,4 +1,5 @@
 // Records, each judged at places 0 to 60. A case is a line: the place that it aims at, its sender, and the record.
+use answer::Answer;
 use failures::Failures;
 use libc::STDOUT_FILENO;
 use sender::Checked;
@@ -22,11 +23,26 @@ fn failures_of<'a>(
     }
 }
 
+// The number of a set: the first eight bytes of an answer record that holds it.
+fn number_of(failed: Failures) -> u64 {
+    let mut bytes = [0u8; answer::SIZE];
+    let a = Answer {
+        failed: failed,
+        code: 0,
+        row: 0,
+        status: 0,
+        booked: 0,
+        length: 0,
+    };
+    answer::write(a, &mut bytes, 0);
+    text::read_u64(&bytes, 0)
+}
+
 // Prints a set: its number, its first code and its count.
 pub(crate) fn print_failures(failed: Failures) {
     let mut code = [0u8; 4];
     page::append_code(&mut code, 0, failed.code());
-    io::print_decimal(STDOUT_FILENO, failed.bits);
+    io::print_decimal(STDOUT_FILENO, number_of(failed));
     io::write_all(STDOUT_FILENO, b" ");
     io::write_all(STDOUT_FILENO, &code);
     io::write_all(STDOUT_FILENO, b" ");

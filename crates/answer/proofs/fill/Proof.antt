@@ -15,13 +15,13 @@ slice-write-w-2 c = simp length-set (omega arith)
 returns : tie.Need-returns
 returns c =
     let coded = c .before .before .before .before .before .before .before .before .before .before in
-    let start = coded .before .before .before .before .before .before .before in
+    let start = coded .before .before .before .before .before .before .before .before in
     answer-filled (start .args .a) (start .args .w .now) (start .pre) (coded .before .before .before .before .write-u64 .ensures) (coded .write-u16 .ensures)
     (c .before .before .before .before .before .before .write-u162 .ensures) (c .before .before .write-u163 .ensures)
 
 same-length : tie.Need-same-length
 same-length c =
-    let start = c .before .before .before .before .before .before .before .before .before .before .before .before .before .before .before .before .before in
+    let start = c .before .before .before .before .before .before .before .before .before .before .before .before .before .before .before .before .before .before in
     ap length (returns c) ∙ answer-length (start .args .a) ∙ sym (start .pre)
 
 pub fill-spec : {M : Type 1} → statement M

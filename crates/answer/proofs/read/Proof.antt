@@ -19,14 +19,14 @@ add-read-u16 c = search needs
 add-t5 : tie.Need-add-t5
 add-t5 c = search needs
 
-shared-slice-read-t9 : tie.Need-shared-slice-read-t9
-shared-slice-read-t9 c = search needs
+shared-slice-read-t10 : tie.Need-shared-slice-read-t10
+shared-slice-read-t10 c = search needs
 
-add-t10 : tie.Need-add-t10
-add-t10 c = search needs
+add-t11 : tie.Need-add-t11
+add-t11 c = search needs
 
-shared-slice-read-t12 : tie.Need-shared-slice-read-t12
-shared-slice-read-t12 c = search needs
+shared-slice-read-t13 : tie.Need-shared-slice-read-t13
+shared-slice-read-t13 c = search needs
 
 add-read-u16-2 : tie.Need-add-read-u16-2
 add-read-u16-2 c = search needs
@@ -53,9 +53,9 @@ read-spec =
     add-read-u16
     (λ c κs. tt)
     add-t5
-    shared-slice-read-t9
-    add-t10
-    shared-slice-read-t12
+    shared-slice-read-t10
+    add-t11
+    shared-slice-read-t13
     add-read-u16-2
     (λ c κs. tt)
     add-read-u16-3
