@@ -98,8 +98,7 @@ checked-same tables sender s stops e w p q r =
     r ∙ (λ i. senderCheck (tables .reporters) sender ((w ∙ ap isWholeIndex e ∙ whole-index s) i) ((p ∙ indexed s stops e 1) i) ((q ∙ indexed s stops e 2) i))
 
 -- the row for which a record passes is a bank's
-pub passed-bank : (tables : Tables) (call : Call) {row : ℕ} → reportersOk (tables .reporters) ≡ true → checkedOf tables call ≡ Passed row
-    → row < bankCount
+pub passed-bank : (tables : Tables) (call : Call) {row : ℕ} → reportersOk (tables .reporters) ≡ true → checkedOf tables call ≡ Passed row → row < bankCount
 unfolding checkedOf
 passed-bank tables call ok e =
     let s = call .«record» in
@@ -155,8 +154,7 @@ module _ (tables : Tables) (row : ℕ) (s c : List ℕ) where
 
 -- The three outcomes of a call, on the ledger that it is lent.
 module _ (tables : Tables) (call : Call) (l : List ℕ) where
-  pub call-refused : {n : ℕ} → n ≡ refusalOf tables call (ledgerFlaw l) → n ≢ 0
-      → record { reply = R.refused n; store = l } ≡ I.single (rules tables) call l
+  pub call-refused : {n : ℕ} → n ≡ refusalOf tables call (ledgerFlaw l) → n ≢ 0 → record { reply = R.refused n; store = l } ≡ I.single (rules tables) call l
   call-refused {n} e ne = sym (single-refused (rules tables) call l n (sym e) ne)
 
   module _ (e : refusalOf tables call (ledgerFlaw l) ≡ 0) {k : Checked} (q : k ≡ checkedOf tables call) where

@@ -10,9 +10,10 @@ use lib.Dec.{eqb, ltb}
 use lib.ListN.{length}
 use lib.Seq.{take-at}
 use borrow.Author.Tests.{ne-eqb}
-use Rattle.frame.specs.Reply.{Reply, refused, accepted, refusalIn}
+use Rattle.frame.specs.Reply.{Reply, refused, accepted, refusalIn, mapReply, past}
 use Rattle.frame.specs.Isolation.{act, single, replies, storeAfter}
 use Rattle.frame.proofs.BoolLaws.{and-intro}
+use Rattle.frame.proofs.ReplyLaws.{past-never, map-refusal}
 use Rattle.frame.proofs.Consequences.{after-append, replies-append}
 use Rattle.text.specs.Bytes.{all}
 use Rattle.tables.specs.Tables.{Tables}
@@ -22,17 +23,16 @@ use Rattle.answer.specs.Answer.{answerSize}
 use Rattle.calls.specs.Call.{Call, refusalOf, checkedOf, rowOf}
 use Rattle.calls.specs.Rules.{rules}
 use Rattle.calls.specs.Filing.{readingOf, answersIn, carriedOut, fileOf}
-use Rattle.calls.specs.Mixed.{Request, record-call, file-call, answersOf, oneAnswer, manyAnswers, requestStore, requestAnswers, requestReply}
+use Rattle.calls.specs.Mixed.{Request, record-call, file-call, answersOf, requestStore, requestAnswers, requestReply}
 use Rattle.calls.specs.Mixed.{storeOver, answersOver, repliesOver, callsOf, requestCalls, callsOver, soundReply, FilesIsolated}
 use Rattle.calls.proofs.CallLaws.{refusal-never-four}
 use Rattle.calls.proofs.Demand3.{demand3}
 use Rattle.calls.proofs.ListLaws.{answers-append, after-in-order, answers-sized}
-use Rattle.calls.proofs.ReadingLaws.{many-refusal, standing-admitted, reading-never-four}
+use Rattle.calls.proofs.ReadingLaws.{standing-admitted, reading-never-four}
 
 module _ (tables : Tables) where
   -- a request leaves and answers what the calls do that it stands for
-  request-store : (q : Request) (l : List ℕ) → ledgerFlaw l ≡ 0
-      → requestStore tables q l ≡ storeAfter (rules tables) (requestCalls tables q) l
+  request-store : (q : Request) (l : List ℕ) → ledgerFlaw l ≡ 0 → requestStore tables q l ≡ storeAfter (rules tables) (requestCalls tables q) l
   unfolding fileOf carriedOut
   request-store (record-call c) l h = refl
   request-store (file-call file a) l h =
@@ -43,8 +43,7 @@ module _ (tables : Tables) where
       go (refused n) = refl
       go (accepted calls) = refl
 
-  request-answers : (q : Request) (l : List ℕ) → ledgerFlaw l ≡ 0
-      → requestAnswers tables q l ≡ answersIn (replies (rules tables) (requestCalls tables q) l)
+  request-answers : (q : Request) (l : List ℕ) → ledgerFlaw l ≡ 0 → requestAnswers tables q l ≡ answersIn (replies (rules tables) (requestCalls tables q) l)
   unfolding fileOf carriedOut answersIn
   request-answers (record-call c) l h = refl
   request-answers (file-call file a) l h =
@@ -59,8 +58,7 @@ module _ (tables : Tables) where
           (answers-sized tables calls l (standing-admitted tables file (length a) calls e) h)
 
   -- and so does a list of them
-  store-over : (qs : List Request) (l : List ℕ) → ledgerFlaw l ≡ 0
-      → storeOver tables qs l ≡ storeAfter (rules tables) (callsOver tables qs) l
+  store-over : (qs : List Request) (l : List ℕ) → ledgerFlaw l ≡ 0 → storeOver tables qs l ≡ storeAfter (rules tables) (callsOver tables qs) l
   store-over [] l h = refl
   store-over (q ∷ qs) l h =
       let calls : List Call = requestCalls tables q in
@@ -68,8 +66,7 @@ module _ (tables : Tables) where
       ∙ store-over qs (storeAfter (rules tables) calls l) (after-in-order tables calls l h)
       ∙ sym (after-append (rules tables) calls (callsOver tables qs) l)
 
-  answers-over : (qs : List Request) (l : List ℕ) → ledgerFlaw l ≡ 0
-      → answersOver tables qs l ≡ answersIn (replies (rules tables) (callsOver tables qs) l)
+  answers-over : (qs : List Request) (l : List ℕ) → ledgerFlaw l ≡ 0 → answersOver tables qs l ≡ answersIn (replies (rules tables) (callsOver tables qs) l)
   unfolding answersIn
   answers-over [] l h = refl
   answers-over (q ∷ qs) l h =
@@ -83,28 +80,26 @@ module _ (tables : Tables) where
       ∙ ap answersIn (sym (replies-append (rules tables) calls rest l))
 
   -- a file call returns the number of its refusal, or how many calls it stands for
-  pub file-told : (file l a : List ℕ)
-      → fileOf tables file l a .reply ≡ manyAnswers (readingOf tables file (length a) (ledgerFlaw l))
+  pub file-told : (file l a : List ℕ) → fileOf tables file l a .reply ≡ mapReply length (readingOf tables file (length a) (ledgerFlaw l))
   unfolding fileOf carriedOut
   file-told file l a = go (readingOf tables file (length a) (ledgerFlaw l))
     where
-      go : (w : Reply (List Call)) → carriedOut tables w l a .reply ≡ manyAnswers w
+      go : (w : Reply (List Call)) → carriedOut tables w l a .reply ≡ mapReply length w
       go (refused n) = refl
       go (accepted calls) = refl
 
   -- on a ledger in order a request returns what it returns on every other
   request-reply : (q : Request) (l : List ℕ) → ledgerFlaw l ≡ 0 → requestReply tables q l ≡ soundReply tables q
-  unfolding single
+  unfolding single past
   request-reply (record-call c) l h =
       let n : ℕ = refusalOf tables c (ledgerFlaw l) in
-      one-act n (eqb n 0) (ltb (rowOf (checkedOf tables c)) bankCount)
-      ∙ ap (λ (k : ℕ). cond (eqb (refusalOf tables c k) 0) (accepted 1) (refused (refusalOf tables c k))) h
+      one-act n (eqb n 0) (ltb (rowOf (checkedOf tables c)) bankCount) ∙ ap (λ (k : ℕ). past (refusalOf tables c k) (accepted 1)) h
     where
-      one-act : (n : ℕ) (f b : Bool) → oneAnswer (act (rules tables) c l n f b .reply) ≡ cond f (accepted 1) (refused n)
+      one-act : (n : ℕ) (f b : Bool) → mapReply {B = ℕ} (λ a. 1) (act (rules tables) c l n f b .reply) ≡ cond f (accepted 1) (refused n)
       one-act n true true = refl
       one-act n true false = refl
       one-act n false b = refl
-  request-reply (file-call file a) l h = file-told file l a ∙ ap (λ (n : ℕ). manyAnswers (readingOf tables file (length a) n)) h
+  request-reply (file-call file a) l h = file-told file l a ∙ ap (λ (n : ℕ). mapReply length (readingOf tables file (length a) n)) h
 
   replies-over : (qs : List Request) (l : List ℕ) → ledgerFlaw l ≡ 0 → repliesOver tables qs l ≡ map (soundReply tables) qs
   replies-over [] l h = refl
@@ -116,14 +111,9 @@ module _ (tables : Tables) where
 
   -- and that is never a refusal by 4
   sound-never-four : (q : Request) → refusalIn (soundReply tables q) ≢ 4
-  sound-never-four (record-call c) = go (eqb (refusalOf tables c 0) 0)
-    where
-      go : (b : Bool) → refusalIn {A = ℕ} (cond b (accepted 1) (refused (refusalOf tables c 0))) ≢ 4
-      go true = omega arith
-      go false = refusal-never-four tables c
+  sound-never-four (record-call c) = past-never _ _ 4 (refusal-never-four tables c) (omega arith)
   sound-never-four (file-call file a) =
-      let w : Reply (List Call) = readingOf tables file (length a) 0 in
-      λ e. reading-never-four tables file (length a) (sym (many-refusal w) ∙ e)
+      λ e. reading-never-four tables file (length a) (sym (map-refusal length (readingOf tables file (length a) 0)) ∙ e)
 
   never-four : (qs : List Request) → all (λ n. not (eqb n 4)) (map refusalIn (map (soundReply tables) qs)) ≡ true
   unfolding all
@@ -143,10 +133,8 @@ module _ (tables : Tables) where
       }
 
   -- two lists of requests in a row; and a list leaves a ledger in order
-  pub over-append : (ps qs : List Request) (l : List ℕ)
-      → (storeOver tables (ps ++ qs) l ≡ storeOver tables qs (storeOver tables ps l))
-      × (answersOver tables (ps ++ qs) l
-      ≡ answersOver tables ps l ++ answersOver tables qs (storeOver tables ps l))
+  pub over-append : (ps qs : List Request) (l : List ℕ) → (storeOver tables (ps ++ qs) l ≡ storeOver tables qs (storeOver tables ps l))
+      × (answersOver tables (ps ++ qs) l ≡ answersOver tables ps l ++ answersOver tables qs (storeOver tables ps l))
   over-append [] qs l = (refl, refl)
   over-append (p ∷ ps) qs l =
       let rest = over-append ps qs (requestStore tables p l) in

@@ -39,8 +39,7 @@ module _ (tables : Tables) where
   unfolding answersIn
   single-answered call l free = go (ltb (rowOf (checkedOf tables call)) bankCount) refl
     where
-      go : (b : Bool) → ltb (rowOf (checkedOf tables call)) bankCount ≡ b
-          → length (answersIn (single (rules tables) call l .reply ∷ [])) ≡ answerSize
+      go : (b : Bool) → ltb (rowOf (checkedOf tables call)) bankCount ≡ b → length (answersIn (single (rules tables) call l .reply ∷ [])) ≡ answerSize
       go true h = rw (single-step (rules tables) call l _ free refl (ltb-true _ _ h), append-nil) (answer-length _)
       go false h = rw (single-stranger (rules tables) call l free (ltb-false _ _ h), append-nil) (answer-length _)
 

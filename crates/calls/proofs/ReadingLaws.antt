@@ -1,17 +1,15 @@
 -- Laws of what a file call comes to before any record is judged: its refusals in their order, and that no call which a file stands for is refused.
 -- Assumes nothing.
 use Prim.Native.Nat.{ℕ, _*_, _≤_, _<_}
-use native.Mathlib.Decide.{ℕ-discrete}
 use native.Mathlib.Omega.{arith}
-use mathlib.Core.Bool.{Bool, true, false, cond}
 use mathlib.Core.List.{List, []}
 use mathlib.Core.Logic.{_≢_}
 use mathlib.Core.Path.{_≡_, refl, ap, sym, _∙_}
-use borrow.Author.Tests.{ne-eqb, lt-ltb, le-ltb, le-leb, leb-true}
-use lib.Dec.{ltb}
+use borrow.Author.Tests.{le-leb, lt-leb, leb-true}
 use lib.ListN.{length, length-take, length-drop, length-map}
 use Rattle.frame.specs.Reply.{Reply, refused, accepted, refusalIn}
 use Rattle.frame.proofs.ReplyLaws.{unless-holds, unless-none, unless-never, first-passes, first-end, first-none, end-never, first-never}
+use Rattle.frame.proofs.ReplyLaws.{past-refused, past-none, past-accepted, past-never, past-holds, past-fails, Numbered, accepted-numbered, past-numbered}
 use Rattle.tables.specs.Tables.{Tables, tablesFlaw}
 use Rattle.tables.proofs.FlawLaws.{tables-never}
 use Rattle.ledger.specs.Sound.{ledgerFlaw}
@@ -25,7 +23,6 @@ use Rattle.envelope.specs.Envelope.{reportClass, reportOf, openedAs, senderOf, 
 use Rattle.envelope.proofs.OpenedLaws.{Whole, opened-whole, refused-from-five}
 use Rattle.calls.specs.Call.{Call, called, recordLimit}
 use Rattle.calls.specs.Filing.{fileLimit, lentRefusal, reportCalls, openedReading, readingOf, FileOutcome, fileOutcome, carriedOut, fileOf}
-use Rattle.calls.specs.Mixed.{manyAnswers}
 use Rattle.calls.specs.FileSteps.{callsFrom, Admitted, Open}
 use Rattle.calls.proofs.RecordLaws.{body-admitted}
 
@@ -49,15 +46,13 @@ module _ (tables : Tables) (file : List ℕ) (held : ℕ) where
       record { short = leb-true _ _ (unless-none _ 1 (omega arith) short); lent = lent; kept = first-none _ [] last .0 }
 
   -- a file call is refused by them, or read on
-  pub reading-lent : {n : ℕ} (room : ℕ) → n ≡ lentRefusal tables file held → n ≢ 0
-      → readingOf tables file room held ≡ refused n
+  pub reading-lent : {n : ℕ} (room : ℕ) → n ≡ lentRefusal tables file held → n ≢ 0 → readingOf tables file room held ≡ refused n
   unfolding readingOf
-  reading-lent {n} room e ne = rw (← e, ne-eqb n 0 ne)
+  reading-lent room e ne = rw (← e) (past-refused _ _ ne)
 
-  pub reading-on : (room : ℕ) → lentRefusal tables file held ≡ 0
-      → readingOf tables file room held ≡ openedReading file room (reportOf file)
+  pub reading-on : (room : ℕ) → lentRefusal tables file held ≡ 0 → readingOf tables file room held ≡ openedReading file room (reportOf file)
   unfolding readingOf
-  reading-on room e = rw e
+  reading-on room e = past-none _ _ e
 
 -- A report to which none of them applies: its body, whose records are all in form, and the calls that it stands for.
 module _ (tables : Tables) (file : List ℕ) (held : ℕ) (free : Lent tables file held) (l : Layout) (e : reportOf file ≡ accepted l) where
@@ -77,8 +72,7 @@ module _ (tables : Tables) (file : List ℕ) (held : ℕ) (free : Lent tables fi
       let short : length body ≤ recordLimit = (let h = free .short in simp (length-take, length-drop) (omega arith)) in
       body-admitted tables (senderOf file l) (free .lent) (whole .named) body short
 
-  pub report-open : (m a : List ℕ) → ledgerFlaw m ≡ 0 → l .records * answerSize ≤ length a
-      → Open tables (senderOf file l) body 0 0 m a
+  pub report-open : (m a : List ℕ) → ledgerFlaw m ≡ 0 → l .records * answerSize ≤ length a → Open tables (senderOf file l) body 0 0 m a
   unfolding recordsFrom
   report-open m a h room =
       let count : length (callsFrom (senderOf file l) body 0) ≡ l .records = length-map (recordsFrom file l) (called (senderOf file l)) ∙ whole .count in
@@ -86,53 +80,27 @@ module _ (tables : Tables) (file : List ℕ) (held : ℕ) (free : Lent tables fi
 
 -- no call that a file stands for is refused
 module _ (tables : Tables) (file : List ℕ) (room : ℕ) (calls : List Call) where
-  opened-admitted : Lent tables file 0 → (o : Reply Layout) → reportOf file ≡ o → openedReading file room o ≡ accepted calls
-      → Admitted tables calls
+  opened-admitted : Lent tables file 0 → (o : Reply Layout) → reportOf file ≡ o → openedReading file room o ≡ accepted calls → Admitted tables calls
   opened-admitted free (refused n) q h = let z : _≡_ {A = ℕ} 0 1 = cc in absurd (omega arith)
-  opened-admitted free (accepted l) q h = go (ltb room (l .records * answerSize)) h
-    where
-      go : (b : Bool) → cond b (refused 12) (accepted (reportCalls file l)) ≡ accepted calls → Admitted tables calls
-      go true h = let z : _≡_ {A = ℕ} 0 1 = cc in absurd (omega arith)
-      go false h =
-          let same : reportCalls file l ≡ calls = cc in
-          rw (← same, ← report-calls tables file 0 free l q) (report-admitted tables file 0 free l q)
+  opened-admitted free (accepted l) q h =
+      let told : accepted (reportCalls file l) ≡ accepted calls = past-accepted _ _ calls h .1 in
+      let same : reportCalls file l ≡ calls = cc in
+      rw (← same, ← report-calls tables file 0 free l q) (report-admitted tables file 0 free l q)
 
   pub standing-admitted : readingOf tables file room 0 ≡ accepted calls → Admitted tables calls
-  standing-admitted e = go (ℕ-discrete (lentRefusal tables file 0) 0)
-    where
-      go : Dec (lentRefusal tables file 0 ≡ 0) → Admitted tables calls
-      go (yes z) =
-          opened-admitted (lent-ok tables file 0 z) (reportOf file) refl (sym (reading-on tables file 0 room z) ∙ e)
-      go (no ne) =
-          let told : readingOf tables file room 0 ≡ refused (lentRefusal tables file 0)
-          = reading-lent tables file 0 room refl ne in
-          let z : _≡_ {A = ℕ} 0 1 = cc in
-          absurd (omega arith)
-
--- a number that a file is not refused by: one by which neither what is lent nor an envelope nor the buffer refuses
-reading-never : (tables : Tables) (file : List ℕ) (room held k : ℕ) → (lentRefusal tables file held ≢ 0 → lentRefusal tables file held ≢ k)
-    → k < 5 → (n : ℕ) → readingOf tables file room held ≡ refused n → n ≢ k
-reading-never tables file room held k lent small n e same = go (ℕ-discrete (lentRefusal tables file held) 0)
-  where
-    full : (l : Layout) (b : Bool) → cond b (refused 12) (accepted (reportCalls file l)) ≡ refused n → ⊥
-    full l true q = let m : n ≡ 12 = cc in omega arith
-    full l false q = let y : _≡_ {A = ℕ} 0 1 = cc in omega arith
-
-    opened : (o : Reply Layout) → reportOf file ≡ o → openedReading file room o ≡ refused n → ⊥
-    opened (refused m) q h = let here : m ≡ n = cc in let five = refused-from-five reportClass file m q in omega arith
-    opened (accepted l) q h = full l (ltb room (l .records * answerSize)) h
-
-    go : Dec (lentRefusal tables file held ≡ 0) → ⊥
-    go (yes free) = opened (reportOf file) refl (sym (reading-on tables file held room free) ∙ e)
-    go (no ne) =
-        let told : readingOf tables file room held ≡ refused (lentRefusal tables file held)
-        = reading-lent tables file held room refl ne in
-        let here : lentRefusal tables file held ≡ n = cc in
-        lent ne (here ∙ same)
+  unfolding readingOf
+  standing-admitted e =
+      let (lent, opened) = past-accepted _ _ calls e in
+      opened-admitted (lent-ok tables file 0 lent) (reportOf file) refl opened
 
 -- a file is refused by a number, and not by 0
-pub reading-refused : (tables : Tables) (file : List ℕ) (room held n : ℕ) → readingOf tables file room held ≡ refused n → n ≢ 0
-reading-refused tables file room held = reading-never tables file room held 0 (λ ne. ne) (omega arith)
+pub reading-numbered : (tables : Tables) (file : List ℕ) (room held : ℕ) → Numbered (readingOf tables file room held)
+unfolding readingOf
+reading-numbered tables file room held = past-numbered _ _ (opened (reportOf file) refl)
+  where
+    opened : (o : Reply Layout) → reportOf file ≡ o → Numbered (openedReading file room o)
+    opened (refused m) q n e = let here : m ≡ n = cc in let five = refused-from-five reportClass file m q in omega arith
+    opened (accepted l) q n e = past-numbered _ _ (accepted-numbered (reportCalls file l)) n e
 
 -- on a sound ledger no file is refused by 4
 lent-never-four : (tables : Tables) (file : List ℕ) → lentRefusal tables file 0 ≢ 4
@@ -142,21 +110,16 @@ lent-never-four tables file =
     (first-never 4 _ _ (tables-never tables 4 (omega arith)) (first-never 4 0 [] (omega arith) (end-never 4 (omega arith))))
 
 pub reading-never-four : (tables : Tables) (file : List ℕ) (room : ℕ) → refusalIn (readingOf tables file room 0) ≢ 4
-reading-never-four tables file room = go (readingOf tables file room 0) refl
+unfolding readingOf
+reading-never-four tables file room = past-never _ _ 4 (lent-never-four tables file) (opened (reportOf file) refl)
   where
-    go : (w : Reply (List Call)) → readingOf tables file room 0 ≡ w → refusalIn w ≢ 4
-    go (refused n) e = reading-never tables file room 0 4 (λ ne. lent-never-four tables file) (omega arith) n e
-    go (accepted calls) e = omega arith
-
--- a file call returns the number of its refusal, or how many calls it stands for
-pub many-refusal : (w : Reply (List Call)) → refusalIn (manyAnswers w) ≡ refusalIn w
-many-refusal (refused n) = refl
-many-refusal (accepted calls) = refl
+    opened : (o : Reply Layout) → reportOf file ≡ o → refusalIn (openedReading file room o) ≢ 4
+    opened (refused m) q = let five = refused-from-five reportClass file m q in omega arith
+    opened (accepted l) q = past-never _ _ 4 (unless-never _ 12 4 (omega arith) (omega arith)) (omega arith)
 
 -- The returns of the file call, on the ledger and the buffer that it is lent.
 module _ (tables : Tables) (file l a : List ℕ) where
-  pub file-lent : {n : ℕ} → n ≡ lentRefusal tables file (ledgerFlaw l) → n ≢ 0
-      → fileOutcome (refused n) l a ≡ fileOf tables file l a
+  pub file-lent : {n : ℕ} → n ≡ lentRefusal tables file (ledgerFlaw l) → n ≢ 0 → fileOutcome (refused n) l a ≡ fileOf tables file l a
   unfolding fileOf carriedOut
   file-lent e ne = rw (reading-lent tables file (ledgerFlaw l) (length a) e ne)
 
@@ -171,7 +134,7 @@ module _ (tables : Tables) (file l a : List ℕ) where
 
       pub file-full : length a < y .records * answerSize → fileOutcome (refused 12) l a ≡ fileOf tables file l a
       unfolding fileOf carriedOut
-      file-full h = rw (reading-on tables file (ledgerFlaw l) (length a) free, found, lt-ltb _ _ h)
+      file-full h = rw (reading-on tables file (ledgerFlaw l) (length a) free, found) (ap (λ (w : Reply (List Call)). carriedOut tables w l a) (sym (past-fails 12 _ (omega arith) (lt-leb _ _ h))))
 
       abbrev ok : Lent tables file (ledgerFlaw l)
       ok = lent-ok tables file (ledgerFlaw l) free
@@ -186,6 +149,5 @@ module _ (tables : Tables) (file l a : List ℕ) where
           → w ≡ carriedOut tables (accepted (callsFrom (senderOf file y) records-of 0)) l a → w ≡ fileOf tables file l a
       unfolding fileOf
       file-taken h t =
-          t ∙ rw (reading-on tables file (ledgerFlaw l) (length a) free, found, le-ltb _ _ h)
-          (ap (λ (calls : List Call). carriedOut tables (accepted calls) l a)
-          (report-calls tables file (ledgerFlaw l) ok y found))
+          t ∙ rw (reading-on tables file (ledgerFlaw l) (length a) free, found, past-holds 12 (accepted (reportCalls file y)) (le-leb _ _ h))
+          (ap (λ (calls : List Call). carriedOut tables (accepted calls) l a) (report-calls tables file (ledgerFlaw l) ok y found))

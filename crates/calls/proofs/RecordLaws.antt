@@ -56,8 +56,7 @@ each-formed (b ∷ c ∷ s) = go (isRecordByte b) (begins crlf (b ∷ c ∷ s)) 
 
 -- with tables in order and a sender in form, the calls of such records are not refused
 module _ (tables : Tables) (sender : List ℕ) (lent : tablesFlaw tables ≡ 0) (named : nameUpTo 8 sender ≡ true) where
-  formed-admitted : (n : ℕ) → n ≤ recordLimit → (rs : List (List ℕ)) → EachFormed n (records rs)
-      → Admitted tables (map (called sender) rs)
+  formed-admitted : (n : ℕ) → n ≤ recordLimit → (rs : List (List ℕ)) → EachFormed n (records rs) → Admitted tables (map (called sender) rs)
   unfolding recordForm
   formed-admitted n h [] f = tt
   formed-admitted n h (r ∷ rs) f =

@@ -15,7 +15,6 @@ use Rattle.tables.specs.Tables.{Tables}
 use Rattle.ledger.specs.Sound.{soundCompartment}
 use Rattle.ledger.specs.Lookup.{freeRow}
 use Rattle.booking.proofs.BookingLaws.{booked-sound}
-use Rattle.checks.specs.declared.Booking.{Booking}
 use Rattle.checks.specs.Booking.{namedRow, bookingOf}
 use Rattle.checks.specs.Verdict.{failuresFrom7}
 use Rattle.checks.proofs.PassedLaws.{side-passed, number-passed, number-new, row-free, named-live}

@@ -61,8 +61,7 @@ module _ (body : List ℕ) (at next : ℕ) (more : at < length body) (e : lineEn
 
 -- the call of a record that stands ready, and its answer, written as number k
 module _ (tables : Tables) (sender body : List ℕ) (at k : ℕ) (l a : List ℕ) (h : Ready tables sender body at k l a) where
-  pub lent-admitted : {next : ℕ} → lineEnd body at ≡ EndsAt next
-      → refusalOf tables (called sender (take (next - 2 - at) (drop at body))) (ledgerFlaw l) ≡ 0
+  pub lent-admitted : {next : ℕ} → lineEnd body at ≡ EndsAt next → refusalOf tables (called sender (take (next - 2 - at) (drop at body))) (ledgerFlaw l) ≡ 0
   lent-admitted {next} e =
       ap (λ (r : List ℕ). refusalOf tables (called sender r) (ledgerFlaw l)) (record-lent body at next (h .more) e) ∙ h .admitted
 

@@ -1,23 +1,21 @@
 -- Worked inputs of document 01, through the calls: R1 and R5 called singly on the all-zero ledger, and files of the bodies of one and of two CR LF.
 -- Assumes nothing.
-use Prim.Native.Nat.{ℕ, _-_, _*_, _≤_, _<_}
-use Prim.Native.Char.{code}
+use Prim.Native.Nat.{ℕ, _-_, _≤_}
 use native.Mathlib.Omega.{arith}
-use mathlib.Core.Bool.{true, false}
+use mathlib.Core.Bool.{true}
 use mathlib.Core.List.{List, [], _∷_, _++_, append-nil, map, head-eq-of-cons-eq, tail-eq-of-cons-eq}
 use mathlib.Core.Path.{_≡_, refl, ap, sym, _∙_}
-use borrow.Author.Tests.{le-ltb, leb-true}
+use borrow.Author.Tests.{le-leb, leb-true}
 use lib.Count.{trailingZeros}
 use lib.ListN.{length, drop, replicate}
 use Rattle.frame.specs.Every.{every, least}
 use Rattle.frame.specs.Parts.{part, put}
-use Rattle.frame.specs.Reply.{Reply, refused, accepted}
+use Rattle.frame.specs.Reply.{accepted, unless, past}
 use Rattle.frame.specs.Isolation.{Outcome, single}
 use Rattle.frame.proofs.Isolation.{single-stranger, single-step}
 use Rattle.frame.proofs.PartLaws.{part-replicate, put-own}
 use Rattle.text.specs.Bytes.{all, same, positionOf}
 use Rattle.text.specs.Number.{littleEndian, lowBytes, numberAt}
-use Rattle.text.specs.Text.{bytes}
 use Rattle.text.specs.Order.{orderOf}
 use Rattle.text.specs.Search.{isAmong, follows}
 use Rattle.decimal.specs.Decimal.{decimalOf, decimalAt, wholeOnly, wholeAndPart, digitsUpTo, digitsValueAfter}
@@ -33,9 +31,9 @@ use Rattle.tables.specs.Reporters.{mailboxOf, mailboxForm, reporterForm, report
 use Rattle.tables.specs.Reporters.{hasCode, hasAddress, hasMailbox, rowByCode, rowByAddress}
 use Rattle.tables.specs.Currencies.{isSpecial, isMoney, currencyOk, currenciesOk}
 use Rattle.ledger.specs.Row.{rowSize}
-use Rattle.tables.specs.Tables.{Tables, tablesFlaw}
+use Rattle.tables.specs.Tables.{tablesFlaw}
 use Rattle.tables.proofs.FlawLaws.{tables-pass}
-use Rattle.ledger.specs.Sound.{compartmentSize, ledgerSize, bankCount, soundLedger, ledgerFlaw}
+use Rattle.ledger.specs.Sound.{compartmentSize, ledgerSize, soundLedger, ledgerFlaw}
 use Rattle.ledger.specs.Lookup.{freeRow, rowByNumber, liveRow}
 use Rattle.ledger.proofs.LedgerLaws.{flaw-none}
 use Rattle.ledger.proofs.EmptyLaws.{empty-ledger}
@@ -109,8 +107,7 @@ not-refused s form =
     (call-passes call refl form))
 
 -- one that is in form and passes the sender check for row 0 is judged and booked on a compartment of zeros
-on-zeros : (s : List ℕ) → recordForm s ≡ true → rowOf (checkedOf workedTables (called workedSender s)) ≡ 0
-    → calledAlone s
+on-zeros : (s : List ℕ) → recordForm s ≡ true → rowOf (checkedOf workedTables (called workedSender s)) ≡ 0 → calledAlone s
     ≡ record {
       reply = accepted (answerBytes (stepAnswer workedTables 0 s zeros));
       store = put compartmentSize 0 (stepCompartment workedTables 0 s zeros) emptyLedger;
@@ -168,8 +165,8 @@ module _ (room : ℕ) (one : answerSize ≤ room) where
   opened : map (λ body. openedReading (workedFile body) room (reportOf (workedFile body))) (crlf ∷ (crlf ++ crlf) ∷ [])
       ≡ accepted [] ∷ accepted (called workedSender [] ∷ []) ∷ []
   unfolding workedFile envelopeOf headOf tailOf bodyStage bodyAt linesAt recordsOf recordsFrom reportCalls textEnd partEnd partThen runOf begins same realDate
-      realDay daysIn realMinute digitsExactly all
-  opened = rw (le-ltb room 0 (omega arith), le-ltb room 16 one) refl
+      realDay daysIn realMinute digitsExactly all past unless
+  opened = rw (le-leb 0 room (omega arith), le-leb 16 room one) refl
 
 -- the call of the empty record: it fails at place 0, and is answered whatever the ledger holds
 blank-called : calledAlone [] ≡ record { reply = accepted blankAnswer; store = emptyLedger }
@@ -178,8 +175,7 @@ unfolding blankAnswer recordForm all lowBytes checkedOf senderCheck senderTests 
 blank-called = single-stranger (rules workedTables) (called workedSender []) emptyLedger (not-refused [] refl) (omega arith)
 
 -- The file call: a body of one CR LF has no record; one of two holds one, answered 9001. Nothing is booked, and the rest of the buffer stays.
-pub worked-bodies : (a : List ℕ) → answerSize ≤ length a
-    → map (λ body. fileOf workedTables (workedFile body) emptyLedger a) (crlf ∷ (crlf ++ crlf) ∷ [])
+pub worked-bodies : (a : List ℕ) → answerSize ≤ length a → map (λ body. fileOf workedTables (workedFile body) emptyLedger a) (crlf ∷ (crlf ++ crlf) ∷ [])
     ≡ fileOutcome (accepted 0) emptyLedger a ∷ fileOutcome (accepted 1) emptyLedger (blankAnswer ++ drop answerSize a) ∷ []
 unfolding workedFile fileOf carriedOut answersIn
 worked-bodies a one =
@@ -190,8 +186,7 @@ worked-bodies a one =
     ∷ fileOutcome (accepted 1) (blank-called i .store) (answersIn (blank-called i .reply ∷ []) ++ drop answerSize a) ∷ [])
     ∙ rw append-nil refl
   where
-    read : (body : List ℕ) → length (workedFile body) ≤ fileLimit
-        → readingOf workedTables (workedFile body) (length a) (ledgerFlaw emptyLedger)
+    read : (body : List ℕ) → length (workedFile body) ≤ fileLimit → readingOf workedTables (workedFile body) (length a) (ledgerFlaw emptyLedger)
         ≡ openedReading (workedFile body) (length a) (reportOf (workedFile body))
     read body short =
         reading-on workedTables (workedFile body) (ledgerFlaw emptyLedger) (length a)

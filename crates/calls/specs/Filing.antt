@@ -1,11 +1,10 @@
 -- The file call of document 01: refusals 1 to 12, and an accepted file as its records called singly, by its sender, in file order.
 -- Assumes nothing.
 use Prim.Native.Nat.{ℕ, _*_}
-use mathlib.Core.Bool.{cond}
 use mathlib.Core.List.{List, [], _∷_, _++_, map}
-use lib.Dec.{leb, eqb, ltb}
+use lib.Dec.{leb}
 use lib.ListN.{length, drop}
-use Rattle.frame.specs.Reply.{Reply, refused, accepted, unless, firstOf}
+use Rattle.frame.specs.Reply.{Reply, refused, accepted, unless, firstOf, past}
 use Rattle.frame.specs.Isolation.{replies, storeAfter}
 use Rattle.tables.specs.Tables.{Tables, tablesFlaw}
 use Rattle.ledger.specs.Sound.{ledgerFlaw}
@@ -31,12 +30,11 @@ reportCalls file l = map (called (senderOf file l)) (recordsFrom file l)
 -- 5 to 11 the envelope, 12 the answer buffer under 16 bytes a record; else the calls that the file stands for
 abbrev pub openedReading : List ℕ → ℕ → Reply Layout → Reply (List Call)
 openedReading file room (refused n) = refused n
-openedReading file room (accepted l) = cond (ltb room (l .records * answerSize)) (refused 12) (accepted (reportCalls file l))
+openedReading file room (accepted l) = past (unless (leb (l .records * answerSize) room) 12) (accepted (reportCalls file l))
 
 -- what a file call comes to before any record is judged: 1 to 4, then the envelope and the buffer, the first that applies
 unfoldable pub readingOf : Tables → List ℕ → ℕ → ℕ → Reply (List Call)
-readingOf tables file room held =
-    let n = lentRefusal tables file held in cond (eqb n 0) (openedReading file room (reportOf file)) (refused n)
+readingOf tables file room held = past (lentRefusal tables file held) (openedReading file room (reportOf file))
 
 -- the answers of replies, one after another
 unfoldable pub answersIn : List (Reply (List ℕ)) → List ℕ

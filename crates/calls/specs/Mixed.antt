@@ -1,12 +1,12 @@
 -- Demand 3 of document 01 for files: a list of single-record calls and file calls in any mix.
 -- Assumes nothing.
 use Prim.Native.Nat.{ℕ, _*_}
-use mathlib.Core.Bool.{Bool, true, not, cond}
+use mathlib.Core.Bool.{true, not}
 use mathlib.Core.List.{List, [], _∷_, _++_, map}
 use mathlib.Core.Path.{_≡_}
 use lib.Dec.{eqb}
 use lib.ListN.{length, take}
-use Rattle.frame.specs.Reply.{Reply, refused, accepted, refusalIn}
+use Rattle.frame.specs.Reply.{Reply, refused, accepted, refusalIn, mapReply, past}
 use Rattle.frame.specs.Isolation.{single, replies, storeAfter}
 use Rattle.text.specs.Bytes.{all}
 use Rattle.tables.specs.Tables.{Tables}
@@ -29,17 +29,8 @@ answersOf o = inBuffer (o .reply)
     inBuffer (refused n) = []
     inBuffer (accepted n) = take (n * answerSize) (o .buffer)
 
--- a reply as the number of its refusal, or how many answers it gives: one for a single record, a file's count for the calls that it stands for
-abbrev pub oneAnswer : {A : Type 0} → Reply A → Reply ℕ
-oneAnswer (refused n) = refused n
-oneAnswer (accepted a) = accepted 1
-
-abbrev pub manyAnswers : Reply (List Call) → Reply ℕ
-manyAnswers (refused n) = refused n
-manyAnswers (accepted calls) = accepted (length calls)
-
 module _ (tables : Tables) where
-  -- what a request leaves, answers and returns, on the ledger as it then is
+  -- what a request leaves, answers and returns, on the ledger as it then is: the number of its refusal, or how many answers it gives
   abbrev pub requestStore : Request → List ℕ → List ℕ
   requestStore (record-call c) l = single (rules tables) c l .store
   requestStore (file-call file a) l = fileOf tables file l a .store
@@ -49,7 +40,7 @@ module _ (tables : Tables) where
   requestAnswers (file-call file a) l = answersOf (fileOf tables file l a)
 
   abbrev pub requestReply : Request → List ℕ → Reply ℕ
-  requestReply (record-call c) l = oneAnswer (single (rules tables) c l .reply)
+  requestReply (record-call c) l = mapReply (λ a. 1) (single (rules tables) c l .reply)
   requestReply (file-call file a) l = fileOf tables file l a .reply
 
   -- a list of requests, each on the ledger that the last one left
@@ -80,8 +71,8 @@ module _ (tables : Tables) where
 
   -- what a request returns on every sound ledger
   abbrev pub soundReply : Request → Reply ℕ
-  soundReply (record-call c) = let n = refusalOf tables c 0 in cond (eqb n 0) (accepted 1) (refused n)
-  soundReply (file-call file a) = manyAnswers (readingOf tables file (length a) 0)
+  soundReply (record-call c) = past (refusalOf tables c 0) (accepted 1)
+  soundReply (file-call file a) = mapReply length (readingOf tables file (length a) 0)
 
   -- The claim: the ledger and the answers are those of the single-record calls that the requests stand for, and demand 3 holds of these; each request
   -- returns what it returns on every sound ledger, and 4 is never among the refusals.

@@ -8,7 +8,7 @@ ghost use Rattle.decimal.specs.Decimal.{decimalOf, valueOf};
 ghost use Rattle.fields.specs.Fields.{stopsOf};
 ghost use Rattle.tables.specs.Currencies.{currenciesOk};
 ghost use Rattle.tables.specs.Tables.{tablesOf};
-ghost use Rattle.ledger.specs.Sound.{bankCount, ledgerFlaw};
+ghost use Rattle.ledger.specs.Sound.{ledgerFlaw};
 ghost use Rattle.calls.specs.Call.{recordLimit, noReporter, noRow, failedOf, recordForm, callFlaw, refusalOf, called};
 ghost use Rattle.calls.specs.Call.{answerOf, bookedAs, stepAnswer, stepCompartment};
 ghost use Rattle.calls.specs.Rules.{rules};

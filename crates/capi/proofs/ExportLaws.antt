@@ -24,7 +24,7 @@ use Rattle.calls.specs.Call.{Call, called, refusalOf, checkedOf, rowOf}
 use Rattle.calls.specs.Rules.{rules}
 use Rattle.calls.specs.Replied.{filedAs, outcome}
 use Rattle.calls.specs.Filing.{FileOutcome, fileOutcome, readingOf, carriedOut, fileOf}
-use Rattle.capi.specs.Exported.{exported, shortNumber, recordReply, recordExport, fileReply, fileExport}
+use Rattle.capi.specs.Exported.{exported, shortNumber, recordReply, recordExport, fileExport}
 
 -- a call whose buffer is too short: its own refusal, else 12
 pub short-refused : {n m r : ℕ} → n ≡ r → n ≢ 0 → m ≡ n → m ≡ shortNumber r
@@ -101,8 +101,7 @@ pub file-kept : (tables : Tables) (file l a : List ℕ) (n : ℕ) → fileOf tab
 unfolding fileOf carriedOut
 file-kept tables file l a n = go (readingOf tables file (length a) (ledgerFlaw l))
   where
-    go : (w : Reply (List Call)) → carriedOut tables w l a .reply ≡ refused n
-        → carriedOut tables w l a ≡ fileOutcome (refused n) l a
+    go : (w : Reply (List Call)) → carriedOut tables w l a .reply ≡ refused n → carriedOut tables w l a ≡ fileOutcome (refused n) l a
     go (refused m) e = ap (λ (r : Reply ℕ). fileOutcome r l a) e
     go (accepted calls) e = let y : _≡_ {A = ℕ} 0 1 = cc in absurd (omega arith)
 

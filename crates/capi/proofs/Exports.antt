@@ -1,6 +1,6 @@
 -- Demand 3 of document 01 for the exported calls: one theorem about every list of them, refused ones included, those by 12 too.
 -- Assumes nothing.
-use Prim.Native.Nat.{ℕ, _*_}
+use Prim.Native.Nat.{ℕ}
 use native.Mathlib.Omega.{arith}
 use mathlib.Core.Bool.{Bool, true, false, not, cond}
 use mathlib.Core.List.{List, [], _∷_, _++_, append-nil, map}
@@ -8,25 +8,25 @@ use mathlib.Core.Logic.{_≢_}
 use mathlib.Core.Path.{_≡_, refl, ap, sym, _∙_}
 use borrow.Author.Tests.{eqb-true, eqb-false, ne-eqb}
 use lib.Dec.{eqb, ltb}
-use lib.ListN.{length, take, drop}
+use lib.ListN.{length, drop}
 use lib.Seq.{take-at}
 use Rattle.frame.specs.Reply.{Reply, refused, accepted, refusalIn}
-use Rattle.frame.specs.Isolation.{Outcome, single}
+use Rattle.frame.specs.Isolation.{Outcome}
 use Rattle.frame.proofs.BoolLaws.{and-intro}
+use Rattle.frame.proofs.ReplyLaws.{map-refusal, map-numbered}
 use Rattle.text.specs.Bytes.{all}
 use Rattle.tables.specs.Tables.{Tables}
 use Rattle.ledger.specs.Sound.{soundLedger, ledgerFlaw}
 use Rattle.ledger.proofs.LedgerLaws.{flaw-none}
 use Rattle.answer.specs.Answer.{answerSize}
-use Rattle.calls.specs.Call.{Call, called, refusalOf}
-use Rattle.calls.specs.Rules.{rules}
+use Rattle.calls.specs.Call.{called, refusalOf}
 use Rattle.calls.specs.Filing.{FileOutcome, readingOf, answersIn, fileOf}
-use Rattle.calls.specs.Mixed.{Request, record-call, file-call, answersOf, manyAnswers, storeOver, answersOver}
+use Rattle.calls.specs.Mixed.{Request, storeOver, answersOver}
 use Rattle.calls.proofs.CallLaws.{refusal-never-four}
 use Rattle.calls.proofs.ListLaws.{single-answered}
-use Rattle.calls.proofs.ReadingLaws.{many-refusal, reading-refused, reading-never-four}
+use Rattle.calls.proofs.ReadingLaws.{reading-numbered, reading-never-four}
 use Rattle.calls.proofs.Files.{demand3-files, file-told, over-append, over-in-order}
-use Rattle.capi.specs.Exported.{Exported, recordReply, recordExport, fileReply, fileExport, shortNumber}
+use Rattle.capi.specs.Exported.{Exported, recordExport, fileExport}
 use Rattle.capi.specs.Exports.{Export, record-export, file-export, exportOf, exportAnswers, storeThrough, answersThrough, repliesThrough}
 use Rattle.capi.specs.Exports.{exportRequests, requestsOver, soundNumber, ExportsIsolated}
 use Rattle.capi.proofs.ExportLaws.{is-answered, is-refused, file-kept}
@@ -45,8 +45,7 @@ module _ (tables : Tables) where
       number : refusalOf tables (called sender s) (ledgerFlaw l) ≡ refusalOf tables (called sender s) 0
       number = ap (refusalOf tables (called sender s)) h
 
-      go : (short free : Bool) → ltb (length a) answerSize ≡ short → eqb (refusalOf tables (called sender s) 0) 0 ≡ free
-          → Same (record-export sender s a) l
+      go : (short free : Bool) → ltb (length a) answerSize ≡ short → eqb (refusalOf tables (called sender s) 0) 0 ≡ free → Same (record-export sender s a) l
       go true true p q =
           let told = is-answered tables sender s l (number ∙ eqb-true _ _ q) .1 in
           record { store = rw (told, p) refl; answers = rw (told, p) refl; number = rw (told, p, q) refl }
@@ -78,30 +77,18 @@ module _ (tables : Tables) where
       told : refusalIn (fileOf tables file l a .reply) ≡ refusalIn (readingOf tables file (length a) 0)
       told =
           ap refusalIn (file-told tables file l a)
-          ∙ many-refusal (readingOf tables file (length a) (ledgerFlaw l))
+          ∙ map-refusal length (readingOf tables file (length a) (ledgerFlaw l))
           ∙ ap (λ (n : ℕ). refusalIn (readingOf tables file (length a) n)) h
 
       go : (r : Reply ℕ) → fileOf tables file l a .reply ≡ r → Same (file-export file a word) l
       go (refused n) e =
           let kept = file-kept tables file l a n e in
-          let some : eqb n 0 ≡ false = ne-eqb n 0 (refused-number n e) in
+          let numbered = map-numbered length _ (reading-numbered tables file (length a) (ledgerFlaw l)) n (sym (file-told tables file l a) ∙ e) in
           record {
             store = rw e (sym (ap (λ (o : FileOutcome). o .store) kept));
-            answers = rw (e, some) refl;
+            answers = rw (e, ne-eqb n 0 numbered) refl;
             number = rw e (ap refusalIn (sym e) ∙ told);
           }
-        where
-          refused-number : (n : ℕ) → fileOf tables file l a .reply ≡ refused n → n ≢ 0
-          refused-number n e = of (readingOf tables file (length a) (ledgerFlaw l)) refl
-            where
-              of : (w : Reply (List Call)) → readingOf tables file (length a) (ledgerFlaw l) ≡ w → n ≡ 0 → ⊥
-              of (refused m) q =
-                  let same : m ≡ n = (let z : refused m ≡ refused n = ap manyAnswers (sym q) ∙ sym (file-told tables file l a) ∙ e in cc) in
-                  λ z. reading-refused tables file (length a) (ledgerFlaw l) m q (same ∙ z)
-              of (accepted calls) q =
-                  let z : accepted (length calls) ≡ refused n = ap manyAnswers (sym q) ∙ sym (file-told tables file l a) ∙ e in
-                  let y : _≡_ {A = ℕ} 0 1 = cc in
-                  absurd (omega arith)
       go (accepted k) e = record { store = rw e refl; answers = rw (e, append-nil) refl; number = rw e (ap refusalIn (sym e) ∙ told) }
 
   export-same : (x : Export) (l : List ℕ) → ledgerFlaw l ≡ 0 → Same x l
@@ -112,8 +99,7 @@ module _ (tables : Tables) where
   export-in-order x l h = ap ledgerFlaw (export-same x l h .store) ∙ over-in-order tables (exportRequests tables x) l h
 
   -- and so does a list of them
-  through : (xs : List Export) (l : List ℕ) → ledgerFlaw l ≡ 0
-      → (storeThrough tables xs l ≡ storeOver tables (requestsOver tables xs) l)
+  through : (xs : List Export) (l : List ℕ) → ledgerFlaw l ≡ 0 → (storeThrough tables xs l ≡ storeOver tables (requestsOver tables xs) l)
       × (answersThrough tables xs l ≡ answersOver tables (requestsOver tables xs) l)
       × (repliesThrough tables xs l ≡ map (soundNumber tables) xs)
   through [] l h = (refl, refl, refl)

@@ -1,12 +1,12 @@
 -- Demand 3 of document 01 for the exported calls: a list of single-record calls and file calls in any mix, each with the buffer that it is lent.
 -- Assumes nothing.
 use Prim.Native.Nat.{ℕ, _*_}
-use mathlib.Core.Bool.{Bool, true, not, cond}
+use mathlib.Core.Bool.{true, not, cond}
 use mathlib.Core.List.{List, [], _∷_, _++_, map}
 use mathlib.Core.Path.{_≡_}
 use lib.Dec.{eqb, ltb}
 use lib.ListN.{length, take, getD}
-use Rattle.frame.specs.Reply.{Reply, refusalIn}
+use Rattle.frame.specs.Reply.{refusalIn}
 use Rattle.text.specs.Bytes.{all}
 use Rattle.tables.specs.Tables.{Tables}
 use Rattle.answer.specs.Answer.{answerSize}

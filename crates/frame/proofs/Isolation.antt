@@ -11,7 +11,7 @@ use mathlib.Core.Logic.{_≢_}
 use lib.Dec.{eqb, ltb}
 use borrow.Author.Tests.{eqb-true, eqb-false, eq-eqb, ne-eqb, ltb-true, ltb-false, lt-ltb, le-ltb}
 use Rattle.frame.specs.Reply.{Reply, refused, accepted, refusalIn}
-use Rattle.frame.specs.Isolation.{Rules, Lawful, Outcome, act, single, replies, storeAfter}
+use Rattle.frame.specs.Isolation.{Rules, Lawful, act, single, replies, storeAfter}
 use Rattle.frame.specs.Isolation.{ownReplies, answersFor, isStep, steps, loneAnswers, loneState, bankAfterBank, Isolated, Stopped}
 use Rattle.frame.proofs.BoolLaws.{and-intro}
 

@@ -1,12 +1,11 @@
 -- The ledger of zeros is sound: all its rows are free.
 -- Assumes nothing.
-use Prim.Native.Nat.{ℕ, _*_, _+_, _≤_, _<_}
+use Prim.Native.Nat.{ℕ}
 use native.Mathlib.Omega.{arith}
 use mathlib.Core.Bool.{true}
-use mathlib.Core.List.{List}
 use mathlib.Core.Path.{_≡_, refl, _∙_}
 use borrow.Author.Tests.{eq-eqb}
-use lib.ListN.{length, replicate, length-replicate}
+use lib.ListN.{replicate, length-replicate}
 use Rattle.frame.proofs.BoolLaws.{and-intro}
 use Rattle.frame.proofs.EveryLaws.{every-intro}
 use Rattle.frame.proofs.PartLaws.{part-replicate}

@@ -3,18 +3,16 @@
 use Prim.Native.Nat.{ℕ, suc, _+_, _*_, _/_, _≤_, _<_}
 use native.Mathlib.Numerals.{add-one}
 use native.Mathlib.Omega.{arith}
-use mathlib.Core.Bool.{Bool, true, false}
-use mathlib.Core.List.{List, [], _∷_, _++_}
+use mathlib.Core.List.{List, [], _∷_}
 use mathlib.Core.Path.{_≡_, refl, ap, sym, _∙_}
 use borrow.Author.Tests.{lt-leb, eq-eqb, ne-eqb}
-use lib.Dec.{eqb}
 use lib.ListN.{length}
 use Rattle.frame.proofs.EveryLaws.{many-none, many-more, many-same}
 use Rattle.answer.specs.declared.Answer.{Answer}
 use Rattle.answer.specs.Answer.{answerSize, zeroAnswer, answerAt}
 use Rattle.page.specs.Page.{Page, page, appended}
 use Rattle.page.specs.Number.{numberText}
-use Rattle.page.proofs.PageLaws.{appended-both, appended-length}
+use Rattle.page.proofs.PageLaws.{appended-both}
 use Rattle.results.specs.Results.{rowText, lineText, linesText, isBooked, bookedCount}
 
 -- answers that are not there are all alike

@@ -15,7 +15,7 @@ use Rattle.answer.specs.declared.Answer.{Answer}
 use Rattle.answer.specs.Answer.{answerSize, answerAt}
 use Rattle.answer.proofs.SizeLaws.{areBytes, answer-small}
 use Rattle.page.specs.Page.{page, appended}
-use Rattle.page.specs.Number.{numberText, codeText}
+use Rattle.page.specs.Number.{numberText}
 use Rattle.page.proofs.PageLaws.{appended-room}
 use Rattle.page.proofs.NumberLaws.{number-short, code-length}
 use Rattle.results.specs.Results.{rowText, lineText, linesText, isBooked, bookedCount, acceptedText}
