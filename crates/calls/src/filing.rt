@@ -1,7 +1,8 @@
 // The file call: the records of a report, called singly by its sender.
+ghost use mathlib.Core.List.{[], _∷_};
 ghost use mathlib.Core.Path.{_≡_};
-ghost use Rattle.frame.specs.Reply.{accepted, refusalIn};
-ghost use Rattle.tables.specs.Tables.{tablesOf};
+ghost use Rattle.frame.specs.Reply.{accepted, refusalIn, firstOf};
+ghost use Rattle.tables.specs.Tables.{tablesOf, tablesFlaw};
 ghost use Rattle.ledger.specs.Sound.{ledgerFlaw};
 ghost use Rattle.envelope.specs.Envelope.{openedAs};
 ghost use Rattle.calls.specs.Replied.{filedAs};
@@ -20,6 +21,22 @@ pub enum Filed {
     Count(usize),
 }
 
+// The number of refusals 2 to 4 that applies first; 0 for none.
+fn lent_flaw<'a>(reporters: &'a [u8], currencies: &'a [u8], ledger: &'a [u8]) -> u8
+    ensures { λ r. ⌜ r ≡ firstOf (tablesFlaw (tablesOf (now (reporters .entry)) (now (currencies .entry))) ∷ ledgerFlaw (now (ledger .entry)) ∷ []) ⌝ }
+{
+    if !tables::reporters_ok(reporters) {
+        return 2;
+    }
+    if !tables::currencies_ok(currencies) {
+        return 3;
+    }
+    if !ledger::sound_ledger(ledger) {
+        return 4;
+    }
+    0
+}
+
 // The number of refusals 1 to 4 that applies first; 0 for none.
 fn lent_refusal<'a>(
     file: &'a [u8],
@@ -32,11 +49,7 @@ fn lent_refusal<'a>(
     if FILE_LIMIT < file.len() {
         return 1;
     }
-    let lent = tables::flaw(reporters, currencies);
-    if lent != 0 {
-        return lent;
-    }
-    ledger::flaw(ledger)
+    lent_flaw(reporters, currencies, ledger)
 }
 
 // Calls the record at a place of the body singly, and writes its answer as number k. The result is the next record's place.

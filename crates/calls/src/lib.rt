@@ -68,13 +68,14 @@ pub fn refusal<'a>(
     ensures { λ r. ⌜ r ≡ refusalOf (tablesOf (now (reporters .entry)) (now (currencies .entry))) (called (now (sender .entry)) (now («record» .entry)))
         (ledgerFlaw (now (ledger .entry))) ⌝ }
 {
-    let lent = tables::flaw(reporters, currencies);
-    if lent != 0 {
-        return lent;
+    if !tables::reporters_ok(reporters) {
+        return 2;
     }
-    let held = ledger::flaw(ledger);
-    if held != 0 {
-        return held;
+    if !tables::currencies_ok(currencies) {
+        return 3;
+    }
+    if !ledger::sound_ledger(ledger) {
+        return 4;
     }
     call_flaw(sender, record)
 }

@@ -9,7 +9,7 @@ ghost use Rattle.text.specs.Bytes.{same};
 ghost use Rattle.text.specs.Number.{numberAt};
 ghost use Rattle.ledger.specs.Row.{rowSize, state, filledRow, number, numberPadding, partner, isSide, rowForm};
 ghost use Rattle.ledger.specs.Sound.{rowCount, compartmentSize, rowsOf, pointsBack, linked, precedes, soundRow, soundCompartment};
-ghost use Rattle.ledger.specs.Sound.{soundLedger, ledgerFlaw};
+ghost use Rattle.ledger.specs.Sound.{soundLedger};
 ghost use Rattle.ledger.specs.Slots.{slotCount, slotOf, Fresh};
 ghost use Rattle.ledger.specs.Lookup.{NoneIn, FirstFrom, isAsked, isNamed, isAskedRow, firstRow, freeRow, rowByNumber, liveRow};
 use text::Class;
@@ -249,13 +249,6 @@ pub fn sound_ledger(l: &[u8]) -> bool
         }
     }
     true
-}
-
-// The number by which the ledger refuses a call: 4 where it is not sound; 0 for none.
-pub fn flaw(l: &[u8]) -> u8
-    ensures { λ r. ⌜ r ≡ ledgerFlaw (now (l .entry)) ⌝ }
-{
-    if sound_ledger(l) { 0 } else { 4 }
 }
 
 // The first row from a row on with a byte at a place, 64 where there is none.

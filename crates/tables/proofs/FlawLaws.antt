@@ -2,16 +2,31 @@
 -- Assumes nothing.
 use Prim.Native.Nat.{ℕ, _<_}
 use native.Mathlib.Omega.{arith}
-use mathlib.Core.Bool.{true}
+use mathlib.Core.Bool.{Bool, true, false, not}
 use mathlib.Core.List.{[]}
 use mathlib.Core.Logic.{_≢_}
 use mathlib.Core.Path.{_≡_, sym}
-use Rattle.frame.proofs.ReplyLaws.{unless-holds, unless-none, unless-never, first-passes, first-end, first-none, first-never, end-never}
+use Rattle.frame.proofs.ReplyLaws.{test-applies, test-passes, unless-holds, unless-none, unless-never, first-passes, first-end, first-none, first-never, end-never}
 use Rattle.tables.specs.Reporters.{reportersOk}
 use Rattle.tables.specs.Currencies.{currenciesOk}
 use Rattle.tables.specs.Tables.{Tables, tablesFlaw}
 
 module _ (t : Tables) where
+  -- what code finds that tests the reporters table, and then the currency list
+  module _ {r : Bool} (e : r ≡ reportersOk (t .reporters)) where
+    pub reporters-refuse : not r ≡ true → 2 ≡ tablesFlaw t
+    unfolding tablesFlaw
+    reporters-refuse h = test-applies 2 _ (omega arith) e h
+
+    module _ (h : not r ≡ false) {q : Bool} (d : q ≡ currenciesOk (t .currencies)) where
+      pub currencies-refuse : not q ≡ true → 3 ≡ tablesFlaw t
+      unfolding tablesFlaw
+      currencies-refuse k = test-passes 2 _ e h (test-applies 3 [] (omega arith) d k)
+
+      pub tables-tested : not q ≡ false → tablesFlaw t ≡ 0
+      unfolding tablesFlaw
+      tables-tested k = sym (test-passes 2 _ e h (test-passes 3 [] d k first-end))
+
   -- tables that are both in order refuse no call
   pub tables-pass : reportersOk (t .reporters) ≡ true → currenciesOk (t .currencies) ≡ true → tablesFlaw t ≡ 0
   unfolding tablesFlaw

@@ -12,7 +12,6 @@ ghost use Rattle.tables.specs.Reporters.{reporterCount, reporterAt, code
 ghost use Rattle.tables.specs.Reporters.{reportersDiffer, reporterOk, reportersOk, hasCode, hasAddress, hasMailbox, hasBy, firstRowBy};
 ghost use Rattle.tables.specs.Reporters.{rowByCode, rowByAddress};
 ghost use Rattle.tables.specs.Currencies.{currencySize, currencyCount, currencyAt, isSpecial, currencyOk, currenciesOk, foundMoney};
-ghost use Rattle.tables.specs.Tables.{tablesOf, tablesFlaw};
 use text::Class;
 use text::Order;
 
@@ -308,17 +307,4 @@ pub fn is_money<'a>(t: &'a [u8], s: &'a [u8]) -> bool
         }
     }
     false
-}
-
-// The number by which the tables refuse a call: 2 the reporters table, 3 the currency list, the first that is not in order; 0 for none.
-pub fn flaw<'a>(reporters: &'a [u8], currencies: &'a [u8]) -> u8
-    ensures { λ r. ⌜ r ≡ tablesFlaw (tablesOf (now (reporters .entry)) (now (currencies .entry))) ⌝ }
-{
-    if !reporters_ok(reporters) {
-        return 2;
-    }
-    if !currencies_ok(currencies) {
-        return 3;
-    }
-    0
 }

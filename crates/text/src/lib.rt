@@ -10,7 +10,7 @@ ghost use Rattle.text.specs.Order.{orderOf};
 ghost use Rattle.text.specs.Number.{littleEndian, bigEndian, lowBytes, numberAt, numberPut};
 
 // The bytes that are tested for zeros at once: a loop over a count that is known is compiled to wide steps.
-const ZERO_BLOCK: usize = 512;
+const ZERO_BLOCK: usize = 1024;
 
 // A class of bytes.
 pub enum Class {

@@ -40,7 +40,7 @@ all-requires c κs = tt
 returns : tie.Need-returns Inv-loop μ-loop
 returns c =
     let l = c .before .before .before .before .loop in
-    block-stop isZero _ (l .i) (l .i + 512) (l .inv .1) (omega arith) (c .before .all .ensures) (not-true _ (c .if1 .taken))
+    block-stop isZero _ (l .i) (l .i + 1024) (l .inv .1) (omega arith) (c .before .all .ensures) (not-true _ (c .if1 .taken))
 
 loop-less : tie.Need-loop-less Inv-loop μ-loop
 loop-less c = search needs
@@ -48,7 +48,7 @@ loop-less c = search needs
 loop-again : tie.Need-loop-again Inv-loop μ-loop
 loop-again c =
     let l = c .before .before .before .before .loop in
-    (omega arith, block-go isZero _ (l .i) (l .i + 512) (l .inv .1) (omega arith) (c .before .all .ensures) (not-false _ (c .if1 .left)))
+    (omega arith, block-go isZero _ (l .i) (l .i + 1024) (l .inv .1) (omega arith) (c .before .all .ensures) (not-false _ (c .if1 .left)))
 
 sub-all-2 : tie.Need-sub-all-2 Inv-loop μ-loop
 sub-all-2 c = search needs
