@@ -134,7 +134,8 @@ module _ (tables : Tables) (file l a : List ℕ) where
 
       pub file-full : length a < y .records * answerSize → fileOutcome (refused 12) l a ≡ fileOf tables file l a
       unfolding fileOf carriedOut
-      file-full h = rw (reading-on tables file (ledgerFlaw l) (length a) free, found) (ap (λ (w : Reply (List Call)). carriedOut tables w l a) (sym (past-fails 12 _ (omega arith) (lt-leb _ _ h))))
+      file-full h =
+          rw (reading-on tables file (ledgerFlaw l) (length a) free, found, past-fails 12 (accepted (reportCalls file y)) (omega arith) (lt-leb _ _ h)) refl
 
       abbrev ok : Lent tables file (ledgerFlaw l)
       ok = lent-ok tables file (ledgerFlaw l) free

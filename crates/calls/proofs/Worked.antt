@@ -59,7 +59,8 @@ use Rattle.calls.specs.Call.{Call, called, recordForm, refusalOf, checke
 use Rattle.calls.specs.Rules.{rules}
 use Rattle.calls.specs.Demand3.{CallsIsolated}
 use Rattle.calls.specs.Filing.{fileLimit, reportCalls, openedReading, readingOf, answersIn, fileOutcome, carriedOut, fileOf}
-use Rattle.calls.specs.Worked.{workedReporters, workedCurrencies, workedTables, workedSender, emptyLedger, r1Answer, r5Answer, r1Row, blankAnswer, workedFile}
+use Rattle.calls.specs.Worked.{workedReporters, workedCurrencies, workedTables, workedSender, emptyLedger, r1Answer, r5Answer, r1Row, blankAnswer}
+use Rattle.calls.specs.Worked.{workedFile}
 use Rattle.calls.proofs.CallLaws.{call-passes, accepted-call}
 use Rattle.calls.proofs.Demand3.{demand3}
 use Rattle.calls.proofs.ReadingLaws.{lent-none, reading-on}

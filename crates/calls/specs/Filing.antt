@@ -20,8 +20,7 @@ fileLimit = 32768
 
 -- the number by which a file call is refused for what it is lent: 1, 2, 3, 4, the first that applies; 0 for none. The ledger's own number is given
 unfoldable pub lentRefusal : Tables → List ℕ → ℕ → ℕ
-lentRefusal tables file held =
-    firstOf (unless (leb (length file) fileLimit) 1 ∷ tablesFlaw tables ∷ held ∷ [])
+lentRefusal tables file held = firstOf (unless (leb (length file) fileLimit) 1 ∷ tablesFlaw tables ∷ held ∷ [])
 
 -- a report's records called singly, by its sender, in file order
 unfoldable pub reportCalls : List ℕ → Layout → List Call

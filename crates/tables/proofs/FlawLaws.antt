@@ -6,7 +6,8 @@ use mathlib.Core.Bool.{Bool, true, false, not}
 use mathlib.Core.List.{[]}
 use mathlib.Core.Logic.{_≢_}
 use mathlib.Core.Path.{_≡_, sym}
-use Rattle.frame.proofs.ReplyLaws.{test-applies, test-passes, unless-holds, unless-none, unless-never, first-passes, first-end, first-none, first-never, end-never}
+use Rattle.frame.proofs.ReplyLaws.{unless-holds, unless-none, unless-never, first-passes, first-end, test-applies, test-passes, first-none}
+use Rattle.frame.proofs.ReplyLaws.{end-never, first-never}
 use Rattle.tables.specs.Reporters.{reportersOk}
 use Rattle.tables.specs.Currencies.{currenciesOk}
 use Rattle.tables.specs.Tables.{Tables, tablesFlaw}

@@ -21,7 +21,8 @@ returns c =
 
 same-length : tie.Need-same-length
 same-length c =
-    let start = c .before .before .before .before .before .before .before .before .before .before .before .before .before .before .before .before .before .before in
+    let coded = c .before .before .before .before .before .before .before .before .before .before in
+    let start = coded .before .before .before .before .before .before .before .before in
     ap length (returns c) ∙ answer-length (start .args .a) ∙ sym (start .pre)
 
 pub fill-spec : {M : Type 1} → statement M
