@@ -23,8 +23,7 @@ use Rattle.calls.proofs.StepLaws.{step-sound}
 module _ (tables : Tables) where
   -- the compartment of a step is sound afterwards
   next-sound : (call : Call) (r : ℕ) → r < bankCount → (l : List ℕ) → ledgerFlaw l ≡ 0 → soundCompartment (rules tables .next call (compartment r l)) ≡ true
-  next-sound call r bank l h =
-      step-sound tables (rowOf (checkedOf tables call)) (call .«record») _ (sound-part l (flawless l h) r bank)
+  next-sound call r bank l h = step-sound tables (rowOf (checkedOf tables call)) (call .«record») _ (sound-part l (flawless l h) r bank)
 
   pub lawful : Lawful (rules tables)
   lawful = record {

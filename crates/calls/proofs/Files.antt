@@ -105,8 +105,7 @@ module _ (tables : Tables) where
   replies-over [] l h = refl
   replies-over (q ∷ qs) l h =
       let calls : List Call = requestCalls tables q in
-      let next : ledgerFlaw (requestStore tables q l) ≡ 0
-      = ap ledgerFlaw (request-store q l h) ∙ after-in-order tables calls l h in
+      let next : ledgerFlaw (requestStore tables q l) ≡ 0 = ap ledgerFlaw (request-store q l h) ∙ after-in-order tables calls l h in
       rw (request-reply q l h, replies-over qs _ next) refl
 
   -- and that is never a refusal by 4

@@ -62,8 +62,7 @@ module _ (body : List ℕ) (at next : ℕ) (more : at < length body) (e : lineEn
 -- the call of a record that stands ready, and its answer, written as number k
 module _ (tables : Tables) (sender body : List ℕ) (at k : ℕ) (l a : List ℕ) (h : Ready tables sender body at k l a) where
   pub lent-admitted : {next : ℕ} → lineEnd body at ≡ EndsAt next → refusalOf tables (called sender (take (next - 2 - at) (drop at body))) (ledgerFlaw l) ≡ 0
-  lent-admitted {next} e =
-      ap (λ (r : List ℕ). refusalOf tables (called sender r) (ledgerFlaw l)) (record-lent body at next (h .more) e) ∙ h .admitted
+  lent-admitted {next} e = ap (λ (r : List ℕ). refusalOf tables (called sender r) (ledgerFlaw l)) (record-lent body at next (h .more) e) ∙ h .admitted
 
   pub record-taken : {next : ℕ} (w : Answer) {m b : List ℕ} → lineEnd body at ≡ EndsAt next
       → outcome (Answered w) m ≡ single (rules tables) (called sender (take (next - 2 - at) (drop at body))) l
@@ -98,8 +97,7 @@ module _ (tables : Tables) where
       let ws : List ℕ = answersIn (replies (rules tables) cs (o .store)) in
       let sized : length w ≡ answerSize = single-answered tables c l free in
       let count : k + suc (length cs) ≡ k + 1 + length cs = omega arith in
-      let joined : answersIn (replies (rules tables) (c ∷ cs) l) ≡ w ++ ws
-      = answers-append (o .reply ∷ []) (replies (rules tables) cs (o .store)) in
+      let joined : answersIn (replies (rules tables) (c ∷ cs) l) ≡ w ++ ws = answers-append (o .reply ∷ []) (replies (rules tables) cs (o .store)) in
       rw (count, joined, put-front k w a sized room, put-behind k w a sized room (length cs)) (simp append-assoc)
 
   module _ (sender body : List ℕ) where
@@ -135,8 +133,7 @@ module _ (tables : Tables) where
             let w = with-record (recordAt body at) (recordsOf (drop next body)) (sym on ∙ g .now .whole ∙ ap (λ (r : Records). records (listed r)) on) in
             (w .0, ap (λ (r : Records). map (called sender) (listed r)) on ∙ ap (map (called sender)) (w .1))
 
-        free : (refusalOf tables (called sender (recordAt body at)) (ledgerFlaw l) ≡ 0)
-            × Admitted tables (callsFrom sender body next)
+        free : (refusalOf tables (called sender (recordAt body at)) (ledgerFlaw l) ≡ 0) × Admitted tables (callsFrom sender body next)
         free =
             let h : Admitted tables (called sender (recordAt body at) ∷ callsFrom sender body next) = rw (split .1) at (g .now .admitted) in
             (ap (refusalOf tables (called sender (recordAt body at))) (g .now .inOrder) ∙ h .0, h .1)

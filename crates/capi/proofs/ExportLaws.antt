@@ -72,8 +72,7 @@ module _ (tables : Tables) (sender s l : List ℕ) where
     pub refused-exported : {r : Replied} {n k : ℕ} (m : List ℕ) → r ≡ Refused n → outcome r m ≡ done → k ≡ n
         → exported k m a [] ≡ recordExport tables sender s l a
     unfolding recordExport
-    refused-exported {r} {n} m q o w =
-        ap (λ (k : ℕ). exported k m a []) w ∙ go (ap (λ (x : Replied). outcome x m) (sym q) ∙ o) (eqb number 0) refl
+    refused-exported {r} {n} m q o w = ap (λ (k : ℕ). exported k m a []) w ∙ go (ap (λ (x : Replied). outcome x m) (sym q) ∙ o) (eqb number 0) refl
       where
         go : outcome (Refused n) m ≡ done → (b : Bool) → eqb number 0 ≡ b → exported n m a [] ≡ recordReply done l a (done .reply)
         go e true q =

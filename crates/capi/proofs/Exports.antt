@@ -100,8 +100,7 @@ module _ (tables : Tables) where
 
   -- and so does a list of them
   through : (xs : List Export) (l : List ℕ) → ledgerFlaw l ≡ 0 → (storeThrough tables xs l ≡ storeOver tables (requestsOver tables xs) l)
-      × (answersThrough tables xs l ≡ answersOver tables (requestsOver tables xs) l)
-      × (repliesThrough tables xs l ≡ map (soundNumber tables) xs)
+      × (answersThrough tables xs l ≡ answersOver tables (requestsOver tables xs) l) × (repliesThrough tables xs l ≡ map (soundNumber tables) xs)
   through [] l h = (refl, refl, refl)
   through (x ∷ xs) l h =
       let one = export-same x l h in
