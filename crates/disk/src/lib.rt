@@ -1,4 +1,6 @@
 // Files that are read whole, as far as a buffer has room, and files that are saved whole.
+ghost use mathlib.Core.Bool.{_&&_};
+ghost use mathlib.Core.Path.{_≡_};
 ghost use Rattle.io.specs.Counts.{Counts};
 
 // How many bytes of the buffer a file filled, and whether all of it could be read.
@@ -7,11 +9,10 @@ pub struct Loaded {
     pub readable: bool,
 }
 
-// What became of a save: the name stands for all the bytes; they could not be written; or what was written could not take the name.
-pub enum Saved {
-    Whole,
-    Unwritten,
-    Unnamed,
+// What became of a save: whether all bytes were written, and whether they then took the name.
+pub struct Saved {
+    pub written: bool,
+    pub named: bool,
 }
 
 // Whether nothing is left to read: the next read gives no byte, and does not fail.
@@ -77,17 +78,29 @@ fn sync_folder() {
     libc::close(fd);
 }
 
-// Saves a file in the working directory, so that its name always stands for a whole one: it is written under a temporary name, which a stopped
-// run may have left, and then renamed. Where that fails an older file stays as it is, and errno says why until the next call, so that the caller
-// removes what was written only after it has said so. No contract can tell of this: what a name stands for is the operating system's word.
-pub fn save(bytes: &[u8], temporary: &[u8], name: &[u8]) -> Saved {
-    os::unlink(temporary);
-    if !write_new(temporary, bytes) {
-        return Saved::Unwritten;
+// Gives the name to what was written whole, and to nothing else: whether it took the name.
+fn take_name(written: bool, temporary: &[u8], name: &[u8]) -> bool
+    ensures { λ r. ⌜ r ≡ (written && r) ⌝ }
+{
+    if !written {
+        return false;
     }
     if os::rename(temporary, name) != 0 {
-        return Saved::Unnamed;
+        return false;
     }
     sync_folder();
-    Saved::Whole
+    true
+}
+
+// Saves a file in the working directory, so that its name always stands for a whole one: it is written under a temporary name, which a stopped
+// run may have left, and then renamed. Where that fails an older file stays as it is, and errno says why until the next call, so that the caller
+// removes what was written only after it has said so. What the promise can tell: the name is taken only by what was written whole. What a name then
+// stands for is the operating system's word.
+pub fn save(bytes: &[u8], temporary: &[u8], name: &[u8]) -> Saved
+    ensures { λ r. ⌜ r .named ≡ (r .written && r .named) ⌝ }
+{
+    os::unlink(temporary);
+    let written = write_new(temporary, bytes);
+    let named = take_name(written, temporary, name);
+    Saved { written, named }
 }

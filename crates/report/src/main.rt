@@ -3,7 +3,6 @@
 ghost use Rattle.io.specs.Counts.{Counts};
 use calls::filing::Filed;
 use disk::Loaded;
-use disk::Saved;
 use libc::STDERR_FILENO;
 use libc::STDOUT_FILENO;
 
@@ -48,11 +47,14 @@ fn give_up(doing: &[u8], path: &[u8]) -> bool {
 
 // Saves the ledger, and complains where it cannot be saved.
 fn save(ledger: &[u8]) -> bool {
-    match disk::save(ledger, b"ledger.tmp", b"ledger.new") {
-        Saved::Whole => true,
-        Saved::Unwritten => give_up(b"cannot write ", b"ledger.tmp"),
-        Saved::Unnamed => give_up(b"cannot replace ", b"ledger.new"),
+    let saved = disk::save(ledger, b"ledger.tmp", b"ledger.new");
+    if !saved.written {
+        return give_up(b"cannot write ", b"ledger.tmp");
     }
+    if !saved.named {
+        return give_up(b"cannot replace ", b"ledger.new");
+    }
+    true
 }
 
 // Prints a page up to the end of its text.
