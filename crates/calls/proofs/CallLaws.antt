@@ -2,8 +2,8 @@
 -- Assumes nothing.
 use Prim.Native.Nat.{ℕ, _*_, _+_, _-_, _≤_, _<_}
 use native.Mathlib.Omega.{arith}
-use mathlib.Core.Bool.{Bool, true, false, cond}
-use mathlib.Core.List.{List, [], _++_}
+use mathlib.Core.Bool.{Bool, true, false, not, cond}
+use mathlib.Core.List.{List, [], _∷_, _++_}
 use mathlib.Core.Logic.{_≢_}
 use mathlib.Core.Path.{_≡_, refl, ap, sym, _∙_}
 use borrow.Author.Tests.{leb-true}
@@ -13,10 +13,12 @@ use Rattle.frame.specs.Every.{least}
 use Rattle.frame.specs.Isolation as I
 use Rattle.frame.specs.Parts.{part, put}
 use Rattle.frame.specs.Reply as R
+use Rattle.frame.specs.Reply.{firstOf}
 use Rattle.frame.proofs.BoolLaws.{and-left}
 use Rattle.frame.proofs.LeastLaws.{least-le}
 use Rattle.frame.proofs.PartLaws.{part-lent, put-lent}
-use Rattle.frame.proofs.ReplyLaws.{unless-holds, unless-none, unless-never, first-passes, first-end, first-none, end-never, first-never}
+use Rattle.frame.proofs.ReplyLaws.{unless-holds, unless-none, unless-never, first-applies, first-passes, first-end, test-applies, test-passes}
+use Rattle.frame.proofs.ReplyLaws.{first-none, end-never, first-never}
 use Rattle.frame.proofs.Isolation.{single-refused, single-stranger, single-step}
 use Rattle.identifier.specs.Identifier.{nameUpTo}
 use Rattle.failures.specs.declared.Failures.{Failures}
@@ -25,11 +27,11 @@ use Rattle.fields.specs.Fields.{isWhole, fieldOf, fieldBy, stopsOf, isWholeInde
 use Rattle.fields.proofs.FieldLaws.{field-by, whole-index}
 use Rattle.tables.specs.Reporters.{reportersOk}
 use Rattle.tables.specs.Tables.{Tables, tablesFlaw}
-use Rattle.tables.proofs.FlawLaws.{tables-in-order, tables-never}
+use Rattle.tables.proofs.FlawLaws.{reporters-refuse, currencies-refuse, tables-tested, tables-in-order, tables-never}
 use Rattle.tables.specs.Currencies.{currenciesOk, isMoney, foundMoney}
 use Rattle.tables.proofs.CurrencyLaws.{found-money}
 use Rattle.tables.proofs.ReporterLaws.{rows-below}
-use Rattle.ledger.specs.Sound.{bankCount, ledgerSize, compartmentSize, rowCount, rowsOf, ledgerFlaw}
+use Rattle.ledger.specs.Sound.{bankCount, ledgerSize, compartmentSize, rowCount, rowsOf, soundLedger, ledgerFlaw}
 use Rattle.ledger.specs.Lookup.{isFree, freeRow}
 use Rattle.sender.specs.declared.Checked.{Checked}
 use Rattle.sender.specs.declared.Checked.the-variants.{Passed, Failed}
@@ -44,6 +46,27 @@ use Rattle.answer.specs.Answer.{answerBytes}
 use Rattle.calls.specs.Call.{Call, called, recordLimit, noReporter, noRow, rowOf, failedOf, recordForm, callFlaw, refusalOf, checkedOf, answerOf}
 use Rattle.calls.specs.Call.{bookedAs, foundRows, stepFailures, stepAnswer, stepCompartment}
 use Rattle.calls.specs.Rules.{rules}
+
+-- What code finds that tests the tables and the ledger which it is lent, ns being the refusals behind these.
+module _ (tables : Tables) (l ns : List ℕ) {r : Bool} (e : r ≡ reportersOk (tables .reporters)) where
+  abbrev lent : ℕ
+  lent = firstOf (tablesFlaw tables ∷ ledgerFlaw l ∷ ns)
+
+  pub lent-2 : not r ≡ true → 2 ≡ lent
+  lent-2 h = first-applies _ (reporters-refuse tables e h) (omega arith)
+
+  module _ (h : not r ≡ false) {q : Bool} (d : q ≡ currenciesOk (tables .currencies)) where
+    pub lent-3 : not q ≡ true → 3 ≡ lent
+    lent-3 k = first-applies _ (currencies-refuse tables e h d k) (omega arith)
+
+    module _ (k : not q ≡ false) {p : Bool} (f : p ≡ soundLedger l) where
+      pub lent-4 : not p ≡ true → 4 ≡ lent
+      unfolding ledgerFlaw
+      lent-4 j = first-passes _ (tables-tested tables e h d k) (test-applies 4 ns (omega arith) f j)
+
+      pub lent-on : {n : ℕ} → not p ≡ false → n ≡ firstOf ns → n ≡ lent
+      unfolding ledgerFlaw
+      lent-on j g = first-passes _ (tables-tested tables e h d k) (test-passes 4 ns f j g)
 
 -- a call whose sender and record are in form
 pub call-passes : (call : Call) → nameUpTo 8 (call .sender) ≡ true → recordForm (call .«record») ≡ true → callFlaw call ≡ 0
