@@ -1,6 +1,6 @@
 -- Laws of the answer record: its stores fill it, it is written and read at a place, and what was written is read back.
 -- Assumes nothing.
-use Prim.Native.Nat.{ℕ, _+_, _-_, _^_, _≤_, _<_}
+use Prim.Native.Nat.{ℕ, _+_, _-_, _*_, _/_, _^_, _≤_, _<_}
 use native.Mathlib.Nat.{add-zero, add-sub-cancel-left}
 use native.Mathlib.Omega.{arith}
 use mathlib.Core.Bool.{Bool, true, false, cond}
@@ -152,3 +152,11 @@ module _ (at : ℕ) (a : Answer) (s : List ℕ) (fits : at + answerSize ≤ leng
       = number-stands 2 (at + 14) (a .length) written _ (omega arith) (omega arith) length-stands in
       sym (answer-in at written room (sym failed) (sym code) (sym booked) (sym len))
       ∙ rw (byte-stands (at + 10) (a .row) written _ row-stands, byte-stands (at + 11) (a .status) written _ status-stands)
+
+-- answers that are not there are all alike
+answer-none : (s : List ℕ) (at : ℕ) → length s < at + answerSize → answerAt at s ≡ zeroAnswer
+unfolding answerAt
+answer-none s at h = rw (lt-leb _ _ h)
+
+pub answer-missing : (s : List ℕ) (k : ℕ) {a : Answer} → length s / answerSize ≤ k → a ≡ answerAt (length s) s → a ≡ answerAt (k * answerSize) s
+answer-missing s k h e = e ∙ answer-none s (length s) (omega arith) ∙ sym (answer-none s (k * answerSize) (omega arith))

@@ -1,5 +1,6 @@
 // The answer record: sixteen bytes, written and read at a place of a buffer.
 ghost use mathlib.Core.Path.{_≡_};
+ghost use Prim.Native.Nat.{_*_};
 ghost use lib.ListN.{length};
 ghost use Rattle.answer.specs.Answer.{answerSize, answerBytes, answerPut, zeroAnswer, answerAt};
 use failures::Failures;
@@ -90,4 +91,14 @@ pub fn read(s: &[u8], at: usize) -> Answer
         booked: text::read_u16(s, at + 12),
         length: text::read_u16(s, at + 14),
     }
+}
+
+// The answer to record k, counted from 0; zeros where it is not there.
+pub fn answer_to(answers: &[u8], k: usize) -> Answer
+    ensures { λ r. ⌜ r ≡ answerAt (k * answerSize) (now (answers .entry)) ⌝ }
+{
+    if k < answers.len() / SIZE {
+        return read(answers, k * SIZE);
+    }
+    read(answers, answers.len())
 }

@@ -19,10 +19,10 @@ use Rattle.envelope.specs.declared.Opened.{Opened}
 use Rattle.envelope.specs.declared.Opened.the-variants.{Report, Refused}
 use Rattle.envelope.specs.Pieces.{between}
 use Rattle.envelope.specs.Body.{records}
-use Rattle.envelope.specs.Envelope.{reportClass, reportOf, openedAs, senderOf, recordsFrom}
+use Rattle.envelope.specs.Envelope.{fileLimit, reportClass, reportOf, openedAs, senderOf, recordsFrom}
 use Rattle.envelope.proofs.OpenedLaws.{Whole, opened-whole, refused-from-five}
 use Rattle.calls.specs.Call.{Call, called, recordLimit}
-use Rattle.calls.specs.Filing.{fileLimit, lentRefusal, reportCalls, openedReading, readingOf, FileOutcome, fileOutcome, carriedOut, fileOf}
+use Rattle.calls.specs.Filing.{lentRefusal, reportCalls, openedReading, readingOf, FileOutcome, fileOutcome, carriedOut, fileOf}
 use Rattle.calls.specs.FileSteps.{callsFrom, Admitted, Open}
 use Rattle.calls.proofs.RecordLaws.{body-admitted}
 

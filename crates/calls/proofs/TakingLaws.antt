@@ -19,9 +19,9 @@ use Rattle.answer.specs.Answer.{answerSize, answerBytes, answerPut}
 use Rattle.envelope.specs.declared.Piece.{Piece}
 use Rattle.envelope.specs.declared.Piece.the-variants.{EndsAt, Missing}
 use Rattle.envelope.specs.Pieces.{runOf}
-use Rattle.envelope.specs.Body.{Records, broken, records, withRecord, recordsOf, recordAt, lineEnd}
+use Rattle.envelope.specs.Body.{Records, records, recordsOf, recordAt, lineEnd}
 use Rattle.envelope.specs.Envelope.{listed}
-use Rattle.envelope.proofs.LineLaws.{lines-on, lines-off, lines-end, line-placed}
+use Rattle.envelope.proofs.LineLaws.{lines-end, line-placed, line-there, lines-split}
 use Rattle.calls.specs.declared.Replied.the-variants.{Answered}
 use Rattle.calls.specs.Call.{Call, called, refusalOf}
 use Rattle.calls.specs.Rules.{rules}
@@ -110,28 +110,12 @@ module _ (tables : Tables) where
     pub going-start : (l a : List ℕ) → Open tables sender body 0 0 l a → Going l a 0 0 l a
     going-start l a h = record { now = h; long = refl; same = refl }
 
-    -- a record in front of the others
-    with-record : (r : List ℕ) (rs : Records) → withRecord r rs ≡ records (listed (withRecord r rs))
-        → (rs ≡ records (listed rs)) × (listed (withRecord r rs) ≡ r ∷ listed rs)
-    with-record r broken h = let z : _≡_ {A = ℕ} 0 1 = cc in absurd (omega arith)
-    with-record r (records rs) h = (refl, refl)
-
     module _ (l₀ a₀ : List ℕ) (at k : ℕ) (l a : List ℕ) (g : Going l₀ a₀ at k l a) (more : at < length body) where
-      line-there : lineEnd body at ≡ Missing → ⊥
-      line-there e =
-          let off : recordsOf (drop at body) ≡ broken = lines-off body at more e in
-          let whole : recordsOf (drop at body) ≡ records (listed (recordsOf (drop at body))) = g .now .whole in
-          let z : _≡_ {A = ℕ} 0 1 = cc in
-          omega arith
-
       -- the calls that are left are the record's at this place, and those from the next place on
       module _ (next : ℕ) (e : lineEnd body at ≡ EndsAt next) where
         split : (recordsOf (drop next body) ≡ records (listed (recordsOf (drop next body))))
             × (callsFrom sender body at ≡ called sender (recordAt body at) ∷ callsFrom sender body next)
-        split =
-            let on = lines-on body at next more e in
-            let w = with-record (recordAt body at) (recordsOf (drop next body)) (sym on ∙ g .now .whole ∙ ap (λ (r : Records). records (listed r)) on) in
-            (w .0, ap (λ (r : Records). map (called sender) (listed r)) on ∙ ap (map (called sender)) (w .1))
+        split = let w = lines-split body at more (g .now .whole) next e in (w .0, ap (map (called sender)) (w .1))
 
         free : (refusalOf tables (called sender (recordAt body at)) (ledgerFlaw l) ≡ 0) × Admitted tables (callsFrom sender body next)
         free =
@@ -148,8 +132,8 @@ module _ (tables : Tables) where
       going-ready = go (lineEnd body at) refl
         where
           go : (p : Piece) → lineEnd body at ≡ p → Ready tables sender body at k l a
-          go (EndsAt next) e = record { more = more; line = line-there; admitted = free next e .0; room = room next e }
-          go Missing e = absurd (line-there e)
+          go (EndsAt next) e = record { more = more; line = line-there body at more (g .now .whole); admitted = free next e .0; room = room next e }
+          go Missing e = absurd (line-there body at more (g .now .whole) e)
 
       pub going-step : (next : ℕ) (l' a' : List ℕ) → Taken tables sender body at k l a next l' a' → Going l₀ a₀ next (k + 1) l' a'
       going-step next l' a' t =

@@ -54,11 +54,11 @@ use Rattle.checks.specs.Verdict.{failuresFrom7, statusAt}
 use Rattle.answer.specs.Answer.{answerSize, answerBytes}
 use Rattle.envelope.specs.Pieces.{runOf, begins, textEnd, partEnd, partThen}
 use Rattle.envelope.specs.Body.{crlf, recordsOf, linesAt, bodyAt}
-use Rattle.envelope.specs.Envelope.{headOf, tailOf, bodyStage, envelopeOf, reportOf, recordsFrom}
+use Rattle.envelope.specs.Envelope.{fileLimit, headOf, tailOf, bodyStage, envelopeOf, reportOf, recordsFrom}
 use Rattle.calls.specs.Call.{Call, called, recordForm, refusalOf, checkedOf, rowOf, answerOf, stepFailures, stepAnswer, bookedAs, stepCompartment}
 use Rattle.calls.specs.Rules.{rules}
 use Rattle.calls.specs.Demand3.{CallsIsolated}
-use Rattle.calls.specs.Filing.{fileLimit, reportCalls, openedReading, readingOf, answersIn, fileOutcome, carriedOut, fileOf}
+use Rattle.calls.specs.Filing.{reportCalls, openedReading, readingOf, answersIn, fileOutcome, carriedOut, fileOf}
 use Rattle.calls.specs.Worked.{workedReporters, workedCurrencies, workedTables, workedSender, emptyLedger, r1Answer, r5Answer, r1Row, blankAnswer}
 use Rattle.calls.specs.Worked.{workedFile}
 use Rattle.calls.proofs.CallLaws.{call-passes, accepted-call}

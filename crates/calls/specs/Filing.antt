@@ -10,13 +10,9 @@ use Rattle.tables.specs.Tables.{Tables, tablesFlaw}
 use Rattle.ledger.specs.Sound.{ledgerFlaw}
 use Rattle.answer.specs.Answer.{answerSize}
 use Rattle.envelope.specs.declared.Layout.{Layout}
-use Rattle.envelope.specs.Envelope.{reportOf, senderOf, recordsFrom}
+use Rattle.envelope.specs.Envelope.{fileLimit, reportOf, senderOf, recordsFrom}
 use Rattle.calls.specs.Call.{Call, called}
 use Rattle.calls.specs.Rules.{rules}
-
--- the largest file
-abbrev pub fileLimit : ℕ
-fileLimit = 32768
 
 -- the number by which a file call is refused for what it is lent: 1, 2, 3, 4, the first that applies; 0 for none. The ledger's own number is given
 unfoldable pub lentRefusal : Tables → List ℕ → ℕ → ℕ

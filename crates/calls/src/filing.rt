@@ -1,19 +1,15 @@
 // The file call: the records of a report, called singly by its sender.
 ghost use mathlib.Core.List.{[], _∷_};
 ghost use mathlib.Core.Path.{_≡_};
-ghost use Rattle.frame.specs.Reply.{accepted, refusalIn, firstOf};
+ghost use Rattle.frame.specs.Reply.{accepted, firstOf};
 ghost use Rattle.tables.specs.Tables.{tablesOf, tablesFlaw};
 ghost use Rattle.ledger.specs.Sound.{ledgerFlaw};
-ghost use Rattle.envelope.specs.Envelope.{openedAs};
 ghost use Rattle.calls.specs.Replied.{filedAs};
 ghost use Rattle.calls.specs.Filing.{lentRefusal, fileOutcome, carriedOut, fileOf};
 ghost use Rattle.calls.specs.FileSteps.{callsFrom, Ready, Taken, Open};
 use crate::admitted;
 use envelope::Opened;
 use envelope::Piece;
-
-// The largest file.
-const FILE_LIMIT: usize = 32768;
 
 // What a file call returns: the number of its refusal, or its count of records.
 pub enum Filed {
@@ -46,7 +42,7 @@ fn lent_refusal<'a>(
 ) -> u8
     ensures { λ r. ⌜ r ≡ lentRefusal (tablesOf (now (reporters .entry)) (now (currencies .entry))) (now (file .entry)) (ledgerFlaw (now (ledger .entry))) ⌝ }
 {
-    if FILE_LIMIT < file.len() {
+    if envelope::FILE_LIMIT < file.len() {
         return 1;
     }
     lent_flaw(reporters, currencies, ledger)
@@ -99,16 +95,6 @@ fn take_records<'a>(
     k
 }
 
-// The number of the refusal that opening a file gave.
-fn refusal_in(opened: Opened) -> u8
-    ensures { λ r. ⌜ r ≡ refusalIn (openedAs opened) ⌝ }
-{
-    match opened {
-        Opened::Refused(n) => n,
-        Opened::Report(_) => 0,
-    }
-}
-
 // The file call: refusals 1 to 12 in that order; then every record called singly, by the file's sender, and answered from the buffer's start on.
 pub fn file_call<'a>(
     file: &'a [u8],
@@ -126,7 +112,7 @@ pub fn file_call<'a>(
     }
     let opened = envelope::open_report(file);
     let Opened::Report(l) = opened else {
-        return Filed::Refused(refusal_in(opened));
+        return Filed::Refused(envelope::refusal_in(opened));
     };
     if answers.len() < l.records * answer::SIZE {
         return Filed::Refused(12);

@@ -4,3 +4,4 @@ pub mod LineLaws
 pub mod OpenedLaws
 pub mod WrittenLaws
 pub mod BlockLaws
+pub mod RecordLaws

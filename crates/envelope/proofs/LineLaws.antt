@@ -2,14 +2,14 @@
 -- Assumes nothing.
 use Prim.Native.Nat.{ℕ, zero, suc, _+_, _-_, _<_, _≤_}
 use mathlib.Core.Bool.{Bool, true, false, _&&_, not, cond, false≢true}
-use mathlib.Core.List.{List, [], _∷_}
+use mathlib.Core.List.{List, [], _∷_, _++_}
 use mathlib.Core.Path.{_≡_, refl, ap, sym, _∙_}
 use native.Mathlib.Nat.{zero-add, suc-add, le-of-suc-le-suc}
 use native.Mathlib.Omega.{arith}
 use borrow.Author.Tests.{ne-eqb, eqb-true, le-leb, lt-leb}
 use lib.Dec.{eqb, leb}
 use lib.ListN.{length, take, drop, getD, length-drop, drop-of-length-le}
-use lib.Seq.{drop-cons, drop-drop, take-take, take-nil, length-take-le}
+use lib.Seq.{drop-cons, drop-drop, take-add, take-take, take-nil, length-take-le}
 use Rattle.frame.proofs.BoolLaws.{and-left, and-right, and-false}
 use Rattle.text.specs.declared.Class.{Class}
 use Rattle.text.specs.declared.Class.the-variants.{RecordByte, BodyByte}
@@ -19,6 +19,7 @@ use Rattle.envelope.specs.declared.Body.{Body}
 use Rattle.envelope.specs.declared.Body.the-variants.{Counted, Broken}
 use Rattle.envelope.specs.Pieces.{between, runOf, begins, textEnd, onPiece}
 use Rattle.envelope.specs.Body.{Records, broken, records, withRecord, withByte, crlf, recordsOf, lineEnd, recordAt, apostropheFrom, counted, linesAt}
+use Rattle.envelope.specs.Envelope.{listed}
 use Rattle.envelope.proofs.PieceLaws.{run-within, missing-ends, picked, text-found}
 
 -- the records of l, whose first line is at its front
@@ -79,6 +80,42 @@ unfolding lineEnd
 line-placed s p q h e =
     let f : runOf RecordByte (drop p s) ≤ length s - p = rw length-drop at (run-within RecordByte (drop p s)) in
     text-found s (p + runOf RecordByte (drop p s)) q (omega arith) crlf e
+
+-- a line that ends at a place is its record, then CR LF
+begins-front : (t l : List ℕ) → begins t l ≡ true → take (length t) l ≡ t
+unfolding begins
+begins-front [] l e = refl
+begins-front (a ∷ t) [] e = absurd (false≢true e)
+begins-front (a ∷ t) (b ∷ l) e = (λ i. eqb-true b a (and-left (eqb b a) _ e) i ∷ begins-front t l (and-right (eqb b a) _ e) i)
+
+pub line-bytes : (s : List ℕ) (p q : ℕ) → lineEnd s p ≡ EndsAt q → take (q - p) (drop p s) ≡ recordAt s p ++ crlf
+unfolding lineEnd textEnd
+line-bytes s p q e =
+    let n = runOf RecordByte (drop p s) in
+    let w = picked (begins crlf (drop (p + n) s)) (p + n + 2) q e in
+    let size : q - p ≡ n + 2 = omega (arith, w .1) in
+    let behind : take 2 (drop n (drop p s)) ≡ crlf = rw (drop-drop n p s) (begins-front crlf (drop (p + n) s) (w .0)) in
+    ap (λ (m : ℕ). take m (drop p s)) size ∙ take-add n 2 (drop p s) ∙ ap (λ (t : List ℕ). recordAt s p ++ t) behind
+
+-- a body of the layout, seen from the start of a line: its line ends, and the records are the one at its place, and those from its end on
+module _ (s : List ℕ) (p : ℕ) (h : p < length s) (whole : recordsOf (drop p s) ≡ records (listed (recordsOf (drop p s)))) where
+  pub line-there : lineEnd s p ≡ Missing → ⊥
+  line-there e =
+      let off : recordsOf (drop p s) ≡ broken = lines-off s p h e in
+      let z : _≡_ {A = ℕ} 0 1 = cc in
+      omega arith
+
+  with-record : (r : List ℕ) (rs : Records) → withRecord r rs ≡ records (listed (withRecord r rs))
+      → (rs ≡ records (listed rs)) × (listed (withRecord r rs) ≡ r ∷ listed rs)
+  with-record r broken e = let z : _≡_ {A = ℕ} 0 1 = cc in absurd (omega arith)
+  with-record r (records rs) e = (refl, refl)
+
+  pub lines-split : (q : ℕ) → lineEnd s p ≡ EndsAt q
+      → (recordsOf (drop q s) ≡ records (listed (recordsOf (drop q s)))) × (listed (recordsOf (drop p s)) ≡ recordAt s p ∷ listed (recordsOf (drop q s)))
+  lines-split q e =
+      let on = lines-on s p q h e in
+      let w = with-record (recordAt s p) (recordsOf (drop q s)) (sym on ∙ whole ∙ ap (λ (r : Records). records (listed r)) on) in
+      (w .0, ap listed on ∙ w .1)
 
 -- The body is read in one pass, up to the first apostrophe: a line of the file before it is a line of the body.
 run-record : (l : List ℕ) → runOf BodyByte l ≡ runOf RecordByte l + runOf BodyByte (drop (runOf RecordByte l) l)

@@ -24,7 +24,10 @@ use Rattle.envelope.specs.declared.Opened.the-variants.{Report, Refused}
 use Rattle.envelope.specs.Pieces.{between, textEnd, partEnd, partThen, onPiece}
 use Rattle.envelope.specs.Body.{Records, broken, records, bodyAt, recordsOf}
 
--- the most records of a file
+-- the largest file, and the most records of one
+abbrev pub fileLimit : ℕ
+fileLimit = 32768
+
 abbrev pub recordCountLimit : ℕ
 recordCountLimit = 1024
 

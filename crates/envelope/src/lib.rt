@@ -2,13 +2,16 @@
 ghost use mathlib.Core.Path.{_≡_};
 ghost use Prim.Native.Nat.{_+_};
 ghost use lib.ListN.{drop};
+ghost use Rattle.frame.specs.Reply.{refusalIn};
 ghost use Rattle.text.specs.declared.Class.the-variants.{RecordByte};
 ghost use Rattle.envelope.specs.Pieces.{runOf, textEnd, partEnd, partThen};
 ghost use Rattle.envelope.specs.Body.{lineEnd, linesAt, bodyAt};
 ghost use Rattle.envelope.specs.Envelope.{Ordered, headOf, tailOf, bodyStage, envelopeOf, reportOf, openedAs};
 use text::Class;
 
-// The most records of a file.
+// The largest file, and the most records of one.
+pub const FILE_LIMIT: usize = 32768;
+
 const RECORD_COUNT_LIMIT: usize = 1024;
 
 // The bytes of a record that are tested at once.
@@ -312,4 +315,14 @@ pub fn open_report(s: &[u8]) -> Opened
     ensures { λ r. ⌜ openedAs r ≡ reportOf (now (s .entry)) ⌝ }
 {
     open(s, b"++BWAMS'UNH+BWA+BWA:0'")
+}
+
+// The number of the refusal that opening a file gave; 0 for a report.
+pub fn refusal_in(opened: Opened) -> u8
+    ensures { λ r. ⌜ r ≡ refusalIn (openedAs opened) ⌝ }
+{
+    match opened {
+        Opened::Refused(n) => n,
+        Opened::Report(_) => 0,
+    }
 }

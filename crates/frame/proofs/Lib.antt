@@ -6,3 +6,4 @@ pub mod StoreLaws
 pub mod ReplyLaws
 pub mod Isolation
 pub mod Consequences
+pub mod PigeonLaws

@@ -3,20 +3,27 @@
 use Prim.Native.Nat.{ℕ, suc, _+_, _≤_, _<_}
 use native.Mathlib.Numerals.{add-one}
 use native.Mathlib.Omega.{arith}
+use native.Mathlib.Nat.{zero-add, add-zero}
 use mathlib.Core.Bool.{Bool, true, false, cond}
 use mathlib.Core.List.{List, [], _∷_, _++_}
 use mathlib.Core.Path.{_≡_, refl, ap, sym, _∙_, subst}
-use borrow.Author.Tests.{lt-ltb, le-ltb, ltb-true}
+use borrow.Author.Tests.{lt-ltb, le-ltb, ltb-true, le-leb, lt-leb}
 use lib.Dec.{ltb}
 use lib.ListN.{length, getD, take, drop, set, length-set, drop-of-length-le}
 use lib.Seq.{drop-cons, sets, sets-eq}
-use Rattle.page.specs.Page.{Page, page, typed, appended}
+use Rattle.frame.specs.Reply.{refused, accepted}
+use Rattle.frame.proofs.ReplyLaws.{past-holds, past-fails}
+use Rattle.page.specs.Page.{Page, page, typed, appended, writeOutcome, wroteInto, fitted}
 
 -- one text behind another
 pub appended-both : (p : Page) (s t : List ℕ) → appended (appended p s) t ≡ appended p (s ++ t)
 unfolding appended
 appended-both p [] t = refl
 appended-both p (b ∷ s) t = appended-both _ s t
+
+-- a text, and one more behind it
+pub appended-on : (p : Page) (s t : List ℕ) {q r : Page} → q ≡ appended p s → r ≡ appended q t → r ≡ appended p (s ++ t)
+appended-on p s t e f = f ∙ (ap (λ (x : Page). appended x t) e ∙ appended-both p s t)
 
 -- a page stays as long as it is
 typed-length : (p : Page) (b : ℕ) → length (typed p b .buffer) ≡ length (p .buffer)
@@ -68,6 +75,16 @@ pub appended-more : (s : List ℕ) (at : ℕ) (t : List ℕ) (i : ℕ) {p : Page
 appended-more s at t i h g e =
     rw (add-one at, add-one i) (sym (appended-byte s at (getD t i 0) (drop (suc i) t) h) ∙ ap (appended (page s at)) (sym (drop-cons t i 0 g)) ∙ e)
 
+-- the same where the place is told by what is written already
+pub copy-start : (s : List ℕ) (at : ℕ) (t : List ℕ) → appended (page s (at + 0)) t ≡ appended (page s at) t
+copy-start s at t = ap (λ (k : ℕ). appended (page s k) t) (add-zero at)
+
+pub copy-more : (s : List ℕ) (at : ℕ) (t : List ℕ) (i : ℕ) {p : Page} → at + i < length s → i < length t → appended (page s (at + i)) (drop i t) ≡ p
+    → appended (page (set s (at + i) (getD t i 0)) (at + (i + 1))) (drop (i + 1) t) ≡ p
+copy-more s at t i h g e =
+    let next : at + (i + 1) ≡ at + i + 1 = omega arith in
+    ap (λ (k : ℕ). appended (page (set s (at + i) (getD t i 0)) k) (drop (i + 1) t)) next ∙ appended-more s (at + i) t i h g e
+
 pub appended-done : {q p : Page} (t : List ℕ) (i : ℕ) → length t ≤ i → appended q (drop i t) ≡ p → q ≡ p
 unfolding appended
 appended-done {q} t i h e = ap (appended q) (sym (drop-of-length-le t {i = i} h)) ∙ e
@@ -83,3 +100,19 @@ appended-sets s at (b ∷ t) h =
 pub appended-room : (s : List ℕ) (at : ℕ) (t : List ℕ) → at + length t ≤ length s
     → appended (page s at) t ≡ page (take at s ++ t ++ drop (at + length t) s) (at + length t)
 appended-room s at t h = appended-sets s at t h ∙ ap (λ (l : List ℕ). page l (at + length t)) (sets-eq t s at h)
+
+-- so a text that has room is written into the buffer, and its length told; one that has not is refused
+module _ (s t : List ℕ) where
+  pub fitted-room : {s' : List ℕ} {n : ℕ} → length t ≤ length s → page s' n ≡ appended (page s 0) t
+      → writeOutcome (accepted n) s' ≡ wroteInto s (fitted (length s) t)
+  unfolding wroteInto
+  fitted-room {s'} {n} room e =
+      let z : 0 + length t ≡ length t = zero-add (length t) in
+      let stands : page s' n ≡ page (t ++ drop (length t) s) (length t)
+      = e ∙ appended-room s 0 t (rw z room) ∙ ap (λ (m : ℕ). page (t ++ drop m s) m) z in
+      ap (λ (p : Page). writeOutcome (accepted (p .end)) (p .buffer)) stands
+      ∙ ap (wroteInto s) (sym (past-holds 19 (accepted t) (le-leb _ _ room)))
+
+  pub fitted-short : length s < length t → writeOutcome (refused 19) s ≡ wroteInto s (fitted (length s) t)
+  unfolding wroteInto
+  fitted-short h = rw (past-fails 19 (accepted t) (omega arith) (lt-leb _ _ h)) refl

@@ -1,12 +1,26 @@
 // Text that is put together piece by piece in a lent buffer: a page, and where its text ends.
 ghost use mathlib.Core.Path.{_≡_};
-ghost use Prim.Native.Nat.{_%_};
+ghost use Prim.Native.Nat.{_+_, _%_, _≤_};
+ghost use lib.ListN.{length};
 ghost use Rattle.io.specs.Digits.{glyph};
 ghost use Rattle.page.specs.Page.{page, appended};
 ghost use Rattle.page.specs.Number.{numberText, codeText};
 
+// Writes a piece from a place on that has room for it, and answers where it ends: without a test for each byte it is copied in wide steps.
+fn copy(out: &mut [u8], at: usize, piece: &[u8]) -> usize
+    requires { ⌜ at + length (now piece) ≤ length (now out) ⌝ }
+    ensures { λ r. ⌜ page (now (out .exit)) r ≡ appended (page (now (out .entry)) at) (now (piece .entry)) ⌝ }
+{
+    let mut i = 0;
+    while i < piece.len() {
+        out[at + i] = piece[i];
+        i += 1;
+    }
+    at + i
+}
+
 // Writes a piece from a place on, as far as there is room, and answers where it ends.
-pub fn append(out: &mut [u8], at: usize, piece: &[u8]) -> usize
+fn append_cut(out: &mut [u8], at: usize, piece: &[u8]) -> usize
     ensures { λ r. ⌜ page (now (out .exit)) r ≡ appended (page (now (out .entry)) at) (now (piece .entry)) ⌝ }
 {
     let mut end = at;
@@ -20,6 +34,18 @@ pub fn append(out: &mut [u8], at: usize, piece: &[u8]) -> usize
         i += 1;
     }
     end
+}
+
+// Writes a piece from a place on, as far as there is room, and answers where it ends. Most often there is room for all of it.
+pub fn append(out: &mut [u8], at: usize, piece: &[u8]) -> usize
+    ensures { λ r. ⌜ page (now (out .exit)) r ≡ appended (page (now (out .entry)) at) (now (piece .entry)) ⌝ }
+{
+    if at <= out.len() {
+        if piece.len() <= out.len() - at {
+            return copy(out, at, piece);
+        }
+    }
+    append_cut(out, at, piece)
 }
 
 // Writes a number in as many decimal digits as it has.

@@ -1,27 +1,17 @@
 -- Laws of the lines that are printed.
 -- Assumes nothing.
-use Prim.Native.Nat.{ℕ, suc, _+_, _*_, _/_, _≤_, _<_}
+use Prim.Native.Nat.{ℕ, suc, _+_, _*_}
 use native.Mathlib.Numerals.{add-one}
-use native.Mathlib.Omega.{arith}
 use mathlib.Core.List.{List, [], _∷_}
 use mathlib.Core.Path.{_≡_, refl, ap, sym, _∙_}
-use borrow.Author.Tests.{lt-leb, eq-eqb, ne-eqb}
-use lib.ListN.{length}
+use borrow.Author.Tests.{eq-eqb, ne-eqb}
 use Rattle.frame.proofs.EveryLaws.{many-none, many-more, many-same}
 use Rattle.answer.specs.declared.Answer.{Answer}
-use Rattle.answer.specs.Answer.{answerSize, zeroAnswer, answerAt}
-use Rattle.page.specs.Page.{Page, page, appended}
+use Rattle.answer.specs.Answer.{answerSize, answerAt}
+use Rattle.page.specs.Page.{Page, appended}
 use Rattle.page.specs.Number.{numberText}
 use Rattle.page.proofs.PageLaws.{appended-both}
 use Rattle.results.specs.Results.{rowText, lineText, linesText, isBooked, bookedCount}
-
--- answers that are not there are all alike
-answer-none : (s : List ℕ) (at : ℕ) → length s < at + answerSize → answerAt at s ≡ zeroAnswer
-unfolding answerAt
-answer-none s at h = rw (lt-leb _ _ h)
-
-pub answer-missing : (s : List ℕ) (k : ℕ) {a : Answer} → length s / answerSize ≤ k → a ≡ answerAt (length s) s → a ≡ answerAt (k * answerSize) s
-answer-missing s k h e = e ∙ answer-none s (length s) (omega arith) ∙ sym (answer-none s (k * answerSize) (omega arith))
 
 -- the row of a reporter, and of none
 pub row-none : (row : ℕ) → row ≡ 255 → rowText row ≡ 45 ∷ []

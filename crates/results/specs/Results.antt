@@ -1,4 +1,4 @@
--- What is printed of a file call (document 01, "Worked inputs").
+-- What is printed of a file call (document 01, "Worked inputs"), and of an error file.
 -- Assumes nothing.
 use Prim.Native.Nat.{ℕ, zero, suc, _*_}
 use mathlib.Core.Bool.{Bool, cond}
@@ -45,3 +45,7 @@ acceptedText n answers =
 -- "A refused file prints `refused` and its number"
 unfoldable pub refusedText : ℕ → List ℕ
 refusedText n = bytes "refused " ++ numberText n ++ lineFeed
+
+-- of an error file that is written (document 02, Item 1): its length
+unfoldable pub writtenText : ℕ → List ℕ
+writtenText n = bytes "written " ++ numberText n ++ lineFeed

@@ -1,25 +1,13 @@
-// The lines that tell of a file call: its refusal, or what became of each record.
+// The lines that tell of a file call, its refusal or what became of each record, and of an error file.
 ghost use mathlib.Core.Path.{_≡_};
-ghost use Prim.Native.Nat.{_*_};
-ghost use Rattle.answer.specs.Answer.{answerSize, answerAt};
 ghost use Rattle.page.specs.Page.{page, appended};
-ghost use Rattle.results.specs.Results.{rowText, lineText, linesText, bookedCount, acceptedText, refusedText};
+ghost use Rattle.results.specs.Results.{rowText, lineText, linesText, bookedCount, acceptedText, refusedText, writtenText};
 use answer::Answer;
 use answer::BOOKED;
 use answer::NO_REPORTER;
 use page::append;
 use page::append_code;
 use page::append_number;
-
-// The answer to record k, counted from 0; zeros where it is not there.
-fn answer_to(answers: &[u8], k: usize) -> Answer
-    ensures { λ r. ⌜ r ≡ answerAt (k * answerSize) (now (answers .entry)) ⌝ }
-{
-    if k < answers.len() / answer::SIZE {
-        return answer::read(answers, k * answer::SIZE);
-    }
-    answer::read(answers, answers.len())
-}
 
 // Writes a reporter's row, or - for none.
 fn append_row(out: &mut [u8], at: usize, row: u8) -> usize
@@ -53,7 +41,7 @@ fn append_lines(out: &mut [u8], at: usize, answers: &[u8], n: usize) -> usize
     let mut end = at;
     let mut k = 0;
     while k < n {
-        end = append_line(out, end, k as u64 + 1, answer_to(answers, k));
+        end = append_line(out, end, k as u64 + 1, answer::answer_to(answers, k));
         k += 1;
     }
     end
@@ -66,7 +54,7 @@ fn booked(answers: &[u8], n: usize) -> u64
     let mut count = 0;
     let mut k = 0;
     while k < n {
-        let a = answer_to(answers, k);
+        let a = answer::answer_to(answers, k);
         if a.status == BOOKED {
             count += 1;
             k += 1;
@@ -90,11 +78,20 @@ pub fn accepted(out: &mut [u8], answers: &[u8], n: usize) -> usize
     append(out, end, b"\n")
 }
 
-// Writes what is printed of a file call that is refused.
+// Writes what is printed of a call that is refused.
 pub fn refused(out: &mut [u8], n: u8) -> usize
     ensures { λ r. ⌜ page (now (out .exit)) r ≡ appended (page (now (out .entry)) 0) (refusedText n) ⌝ }
 {
     let mut end = append(out, 0, b"refused ");
     end = append_number(out, end, n as u64);
+    append(out, end, b"\n")
+}
+
+// Writes what is printed of an error file that is written, of so many bytes.
+pub fn written(out: &mut [u8], n: u64) -> usize
+    ensures { λ r. ⌜ page (now (out .exit)) r ≡ appended (page (now (out .entry)) 0) (writtenText n) ⌝ }
+{
+    let mut end = append(out, 0, b"written ");
+    end = append_number(out, end, n);
     append(out, end, b"\n")
 }

@@ -1,8 +1,8 @@
 use native.Mathlib.Omega.{arith}
-use Rattle.results.proofs.ResultLaws.{answer-missing}
+use Rattle.answer.proofs.AnswerLaws.{answer-missing}
 use borrow.Author.Needs.{needs}
-use Rattle.results.proofs.answer_to.Statement.{statement}
-use Rattle.results.proofs.answer_to.Tie as tie
+use Rattle.answer.proofs.answer_to.Statement.{statement}
+use Rattle.answer.proofs.answer_to.Tie as tie
 
 mul-read : tie.Need-mul-read
 mul-read c = search needs

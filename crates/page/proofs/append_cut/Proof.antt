@@ -5,8 +5,8 @@ use mathlib.Core.Path.{_≡_, refl, _∙_}
 use lib.ListN.{length, drop, length-set}
 use Rattle.page.specs.Page.{page, appended}
 use Rattle.page.proofs.PageLaws.{appended-full, appended-more, appended-done}
-use Rattle.page.proofs.append.Statement.{statement}
-use Rattle.page.proofs.append.Tie as tie
+use Rattle.page.proofs.append_cut.Statement.{statement}
+use Rattle.page.proofs.append_cut.Tie as tie
 
 abbrev Inv-loop : tie.InvT-loop
 Inv-loop out₀ at piece end₀ i₀ out end i =
@@ -50,8 +50,8 @@ same-length-2 c = search needs
 returns-2 : tie.Need-returns-2 Inv-loop μ-loop
 returns-2 c = appended-done (c .before .before .args .piece .now) (c .before .loop .i) (omega arith) (c .before .loop .inv .2)
 
-pub append-spec : {M : Type 1} → statement M
-append-spec =
+pub append-cut-spec : {M : Type 1} → statement M
+append-cut-spec =
     tie.close
     (tie.spec
     Inv-loop
