@@ -1,0 +1,4 @@
+pub mod TextLaws
+pub mod IndexLaws
+pub mod HandedLaws
+pub mod Worked

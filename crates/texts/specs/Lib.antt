@@ -1,0 +1,4 @@
+pub mod Texts
+pub mod Index
+pub mod Steps
+pub mod Worked
