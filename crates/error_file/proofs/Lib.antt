@@ -1,0 +1,3 @@
+pub mod PieceLaws
+pub mod ErrorLaws
+pub mod ReadBack
