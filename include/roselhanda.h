@@ -1,4 +1,5 @@
-/* The checks and the ledger of document 01 for C and C++, on x86-64 Linux.
+/* The checks and the ledger of document 01 and the error file of document 02, for C and C++, on
+ * x86-64 Linux.
  *
  * Link with target/staticlib/libcapi.a (make lib).
  *
@@ -21,9 +22,10 @@
 extern "C" {
 #endif
 
-/* Bytes of a ledger, bytes of an answer, most records of a file. */
+/* Bytes of a ledger, of an answer, of a row of texts; most records of a file. */
 #define ROSELHANDA_LEDGER_SIZE 32768
 #define ROSELHANDA_ANSWER_SIZE 16
+#define ROSELHANDA_TEXT_ROW_SIZE 80
 #define ROSELHANDA_MOST_RECORDS 1024
 
 /* The refusals. */
@@ -41,6 +43,11 @@ extern "C" {
 #define ROSELHANDA_REFUSED_ANSWER_ROOM 12  /* no room for all answers */
 #define ROSELHANDA_REFUSED_SENDER 13       /* the sender is not 1 to 8 capitals or digits */
 #define ROSELHANDA_REFUSED_RECORD 14       /* a record over 32,768 bytes, or with CR, LF or ' */
+#define ROSELHANDA_REFUSED_ANSWERS 15      /* not 16 bytes a record, or a code that no check has */
+#define ROSELHANDA_REFUSED_TEXTS 16        /* a list of texts not as said below */
+#define ROSELHANDA_REFUSED_NO_TEXT 17      /* a code of the answers is in neither list of texts */
+#define ROSELHANDA_REFUSED_GIVEN_TIME 18   /* the date or time given is not as said below */
+#define ROSELHANDA_REFUSED_ROOM 19         /* no room for what is to be written */
 
 /* What became of a record: byte 11 of its answer. */
 #define ROSELHANDA_BOOKED 0
@@ -64,7 +71,10 @@ extern "C" {
  *   record      39 fields with semicolons between them
  *   answer      16 bytes: 0-7 the set of failed checks, bit k for place k; 8-9 the code at the
  *               lowest failed place, 0 for none; 10 the reporter's row; 11 what became of the
- *               record; 12-13 its new row in the compartment; 14-15 its length */
+ *               record; 12-13 its new row in the compartment; 14-15 its length
+ *   texts       any number of rows of 80 bytes: 0-3 code, four digits that no other row of the
+ *               list has; 4-79 its text, bytes from 0x20 to 0x7E other than ', then spaces
+ *   date, time  YYYYMMDD in 2000 to 2099, HHMM */
 
 /* Judges one record of a sender and books it if no check fails.
  * Writes the answer to the start of answer, and the booking to ledger.
@@ -92,6 +102,21 @@ uint64_t roselhanda_file(const uint8_t *file, uint64_t file_length,
  * Never refused. */
 uint64_t roselhanda_field(const uint8_t *record, uint64_t record_length,
                           uint64_t n, uint64_t *length);
+
+/* Makes the error file of a report: its refused records for its sender, each with its code and a
+ * text, from member_texts where that holds the code, else from our_texts. Of an answer only the
+ * code is read.
+ * Writes the file to the start of out, and its length to *written. It may be longer than a report
+ * may be; report_length + 5 bytes, and 83 more for each refused record, are always room enough.
+ * Refused by 1, 5 to 11, 15 to 19, in this order. */
+uint64_t roselhanda_error_file(const uint8_t *report, uint64_t report_length,
+                               const uint8_t *answers, uint64_t answers_length,
+                               const uint8_t *member_texts, uint64_t member_texts_length,
+                               const uint8_t *our_texts, uint64_t our_texts_length,
+                               const uint8_t *date, uint64_t date_length,
+                               const uint8_t *time, uint64_t time_length,
+                               uint8_t *out, uint64_t out_length,
+                               uint64_t *written);
 
 #ifdef __cplusplus
 }

@@ -9,13 +9,17 @@ use mathlib.Core.Path.{_≡_, refl, ap, sym, _∙_}
 use borrow.Author.Tests.{eq-eqb, ne-eqb, eqb-true, eqb-false, lt-ltb, le-ltb, le-leb, ltb-true, ltb-false}
 use lib.Dec.{eqb, ltb}
 use lib.ListN.{length}
-use Rattle.frame.specs.Reply.{Reply, refused, accepted}
+use Rattle.frame.specs.Reply.{Reply, refused, accepted, refusalIn}
 use Rattle.frame.specs.Isolation.{Outcome, single}
 use Rattle.frame.proofs.Isolation.{single-refused, single-stranger, single-step}
 use Rattle.tables.specs.Tables.{Tables}
 use Rattle.ledger.specs.Sound.{bankCount, ledgerFlaw}
 use Rattle.answer.specs.declared.Answer.{Answer}
 use Rattle.answer.specs.Answer.{answerSize, answerBytes, answerPut}
+use Rattle.page.specs.Page.{WriteOutcome, writeOutcome, wroteInto}
+use Rattle.error_file.specs.declared.Wrote.{Wrote}
+use Rattle.error_file.specs.declared.Wrote.the-variants as Error
+use Rattle.error_file.specs.ErrorFile.{errorFileOf, wroteAs}
 use Rattle.calls.specs.declared.Replied.{Replied}
 use Rattle.calls.specs.declared.Replied.the-variants.{Refused, Answered}
 use Rattle.calls.specs.declared.filing.Filed.{Filed}
@@ -24,7 +28,7 @@ use Rattle.calls.specs.Call.{Call, called, refusalOf, checkedOf, rowOf}
 use Rattle.calls.specs.Rules.{rules}
 use Rattle.calls.specs.Replied.{filedAs, outcome}
 use Rattle.calls.specs.Filing.{FileOutcome, fileOutcome, readingOf, carriedOut, fileOf}
-use Rattle.capi.specs.Exported.{exported, shortNumber, recordReply, recordExport, fileExport}
+use Rattle.capi.specs.Exported.{exported, shortNumber, recordReply, recordExport, fileExport, writeReply, errorExport}
 
 -- a call whose buffer is too short: its own refusal, else 12
 pub short-refused : {n m r : ℕ} → n ≡ r → n ≢ 0 → m ≡ n → m ≡ shortNumber r
@@ -119,3 +123,39 @@ module _ (tables : Tables) (file l a : List ℕ) (r : Filed) (m b : List ℕ) (o
   file-counted {n} e =
       let reply : fileOf tables file l a .reply ≡ accepted n = sym (ap (λ (x : FileOutcome). x .reply) o) ∙ ap filedAs e in
       (λ i. exported 0 (o i .store) (o i .buffer) (n ∷ [])) ∙ rw reply refl
+
+-- the two returns of a call that writes a text
+lengthIn : Reply ℕ → ℕ
+lengthIn (refused n) = 0
+lengthIn (accepted n) = n
+
+refused-wrote : (out : List ℕ) (word : ℕ) (b : List ℕ) (n : ℕ) (w : Reply (List ℕ)) → writeOutcome (refused n) b ≡ wroteInto out w
+    → exported n [] b (word ∷ []) ≡ writeReply out word w
+unfolding wroteInto
+refused-wrote out word b n (refused m) o = (λ i. exported (refusalIn (o i .reply)) [] (o i .buffer) (word ∷ []))
+refused-wrote out word b n (accepted t) o =
+    let told : refused n ≡ accepted (length t) = ap (λ (x : WriteOutcome). x .reply) o in
+    let z : _≡_ {A = ℕ} 0 1 = cc in
+    absurd (omega arith)
+
+told-wrote : (out : List ℕ) (word : ℕ) (b : List ℕ) (n : ℕ) (w : Reply (List ℕ)) → writeOutcome (accepted n) b ≡ wroteInto out w
+    → exported 0 [] b (n ∷ []) ≡ writeReply out word w
+unfolding wroteInto lengthIn
+told-wrote out word b n (refused m) o =
+    let told : accepted n ≡ refused m = ap (λ (x : WriteOutcome). x .reply) o in
+    let z : _≡_ {A = ℕ} 0 1 = cc in
+    absurd (omega arith)
+told-wrote out word b n (accepted t) o = (λ i. exported 0 [] (o i .buffer) (lengthIn (o i .reply) ∷ []))
+
+module _ (report answers member ours date time out : List ℕ) (r : Wrote) (b : List ℕ)
+    (o : writeOutcome (wroteAs r) b ≡ wroteInto out (errorFileOf member ours answers date time report (length out))) (word : ℕ) where
+  pub error-refused : {n k : ℕ} → r ≡ Error.Refused n → k ≡ n
+      → exported k [] b (word ∷ []) ≡ errorExport report answers member ours date time out word
+  unfolding errorExport
+  error-refused {n} e w =
+      ap (λ (k : ℕ). exported k [] b (word ∷ [])) w
+      ∙ refused-wrote out word b n _ (ap (λ (x : Wrote). writeOutcome (wroteAs x) b) (sym e) ∙ o)
+
+  pub error-told : {n : ℕ} → r ≡ Error.Length n → exported 0 [] b (n ∷ []) ≡ errorExport report answers member ours date time out word
+  unfolding errorExport
+  error-told {n} e = told-wrote out word b n _ (ap (λ (x : Wrote). writeOutcome (wroteAs x) b) (sym e) ∙ o)

@@ -1,5 +1,5 @@
--- What the functions exported for C and Rust return and leave: the calls of document 01 by one convention. A call returns 0 where it is carried out, else
--- the number of its refusal, and then leaves every lent byte as it was; what it tells beside that stands in lent words.
+-- What the functions exported for C and Rust return and leave: the calls of documents 01 and 02 by one convention. A call returns 0 where it is carried
+-- out, else the number of its refusal, and then leaves every lent byte as it was; what it tells beside that stands in lent words.
 -- Assumes nothing.
 use Prim.Native.Nat.{ℕ}
 use mathlib.Core.Bool.{cond}
@@ -12,6 +12,7 @@ use Rattle.tables.specs.Tables.{Tables}
 use Rattle.answer.specs.Answer.{answerSize}
 use Rattle.fields.specs.declared.Place.{Place}
 use Rattle.fields.specs.Fields.{fieldPlace}
+use Rattle.error_file.specs.ErrorFile.{errorFileOf}
 use Rattle.calls.specs.Call.{called}
 use Rattle.calls.specs.Rules.{rules}
 use Rattle.calls.specs.Filing.{FileOutcome, fileOf}
@@ -53,3 +54,11 @@ fieldNumbers start length = record { start = start; length = length }
 
 abbrev pub fieldExport : List ℕ → ℕ → Place
 fieldExport «record» n = fieldPlace «record» n
+
+-- the error file of document 02, Item 1: the file at the buffer's start, its length in the lent word. The call is lent no ledger
+abbrev pub writeReply : List ℕ → ℕ → Reply (List ℕ) → Exported
+writeReply out word (refused n) = exported n [] out (word ∷ [])
+writeReply out word (accepted text) = exported 0 [] (text ++ drop (length text) out) (length text ∷ [])
+
+unfoldable pub errorExport : List ℕ → List ℕ → List ℕ → List ℕ → List ℕ → List ℕ → List ℕ → ℕ → Exported
+errorExport report answers member ours date time out word = writeReply out word (errorFileOf member ours answers date time report (length out))

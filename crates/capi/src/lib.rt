@@ -5,9 +5,10 @@ ghost use mathlib.Core.Path.{_≡_};
 ghost use Rattle.tables.specs.Tables.{tablesOf};
 ghost use Rattle.ledger.specs.Sound.{ledgerFlaw};
 ghost use Rattle.calls.specs.Call.{called, refusalOf};
-ghost use Rattle.capi.specs.Exported.{exported, recordExport, fileExport, shortNumber, fieldNumbers, fieldExport};
+ghost use Rattle.capi.specs.Exported.{exported, recordExport, fileExport, shortNumber, fieldNumbers, fieldExport, errorExport};
 use calls::Replied;
 use calls::filing::Filed;
+use error_file::Wrote;
 use text::wide;
 
 // The refusal of an answer buffer that is too short.
@@ -85,4 +86,29 @@ pub extern "C" fn roselhanda_field(record: &[u8], n: u64, length: &mut u64) -> u
     let p = fields::field_place(record, n as usize);
     *length = p.length as u64;
     p.start as u64
+}
+
+// The error file: from the start of out, and in the lent word how long it is.
+#[no_mangle]
+pub extern "C" fn roselhanda_error_file<'a>(
+    report: &'a [u8],
+    answers: &'a [u8],
+    member_texts: &'a [u8],
+    our_texts: &'a [u8],
+    date: &'a [u8],
+    time: &'a [u8],
+    out: &mut [u8],
+    written: &mut u64,
+) -> u64
+    ensures { λ r. ⌜ exported r [] (now (out .exit)) (now (written .exit) ∷ [])
+        ≡ errorExport (now (report .entry)) (now (answers .entry)) (now («member_texts» .entry)) (now («our_texts» .entry)) (now (date .entry))
+        (now (time .entry)) (now (out .entry)) (now (written .entry)) ⌝ }
+{
+    match error_file::write(report, answers, member_texts, our_texts, date, time, out) {
+        Wrote::Refused(n) => wide(n),
+        Wrote::Length(n) => {
+            *written = n as u64;
+            0
+        }
+    }
 }
