@@ -2,6 +2,8 @@
 ghost use mathlib.Core.Bool.{_&&_};
 ghost use mathlib.Core.Path.{_≡_};
 ghost use Rattle.io.specs.Counts.{Counts};
+use libc::STDERR_FILENO;
+use libc::STDOUT_FILENO;
 
 // How many bytes of the buffer a file filled, and whether all of it could be read.
 pub struct Loaded {
@@ -103,4 +105,51 @@ pub fn save(bytes: &[u8], temporary: &[u8], name: &[u8]) -> Saved
     let written = write_new(temporary, bytes);
     let named = take_name(written, temporary, name);
     Saved { written, named }
+}
+
+// Says on standard error what was not done, and why: what failed, on which file, and errno's text.
+fn complain<'a>(undone: &'a [u8], doing: &'a [u8], path: &'a [u8]) {
+    io::write_all(STDERR_FILENO, undone);
+    io::write_all(STDERR_FILENO, doing);
+    os::fail(path);
+}
+
+// Reads a file as `load` does, and says what is not done where it cannot be read.
+pub fn load_or_complain<'a>(path: &'a [u8], buffer: &mut [u8], undone: &'a [u8]) -> Loaded
+    ensures { λ r. ⌜ Counts (r .bytes) (now (buffer .exit)) ⌝ }
+{
+    let loaded = load(path, buffer);
+    if !loaded.readable {
+        complain(undone, b"cannot read ", path);
+    }
+    loaded
+}
+
+// Saves a file as `save` does; where that fails says what is not done, and removes what was written.
+pub fn save_or_complain<'a>(
+    bytes: &'a [u8],
+    temporary: &'a [u8],
+    name: &'a [u8],
+    undone: &'a [u8],
+) -> Saved
+    ensures { λ r. ⌜ r .named ≡ (r .written && r .named) ⌝ }
+{
+    let saved = save(bytes, temporary, name);
+    if !saved.written {
+        complain(undone, b"cannot write ", temporary);
+        os::unlink(temporary);
+        return saved;
+    }
+    if !saved.named {
+        complain(undone, b"cannot replace ", name);
+        os::unlink(temporary);
+    }
+    saved
+}
+
+// Prints a text, and says so where it cannot be printed.
+pub fn print(text: &[u8]) {
+    if !io::write_all(STDOUT_FILENO, text) {
+        os::fail(b"standard output");
+    }
 }
