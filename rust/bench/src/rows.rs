@@ -1,4 +1,6 @@
-//! The inputs of the benchmark.
+//! The inputs of single-record calls and of file calls.
+
+use crate::desks::{Booking, Desk, Outcome};
 
 pub const ANSWER_SIZE: usize = 16;
 const ROWS: usize = 64;
@@ -6,7 +8,15 @@ const ROW_SIZE: usize = 32;
 const BANKS: usize = 16;
 const LEDGER_SIZE: usize = BANKS * ROWS * ROW_SIZE;
 const CURRENCIES: usize = 180;
-const SENDER: &str = "MBONE";
+pub const SENDER: &str = "MBONE";
+/// The control word of a file.
+pub const WORD: &str = "BENCH1";
+
+/// A row of the benchmark.
+pub trait Named {
+    fn name(&self) -> &'static str;
+    fn desk(&self) -> Box<dyn Desk>;
+}
 
 /// The call of a row.
 #[derive(Clone, Copy)]
@@ -47,13 +57,23 @@ pub enum Numbers {
     OneTail,
 }
 
-/// One row of the benchmark.
+/// A call on a ledger.
 #[derive(Clone, Copy)]
 pub struct Row {
-    pub name: &'static str,
-    pub call: Call,
-    pub fill: Fill,
-    pub numbers: Numbers,
+    name: &'static str,
+    call: Call,
+    fill: Fill,
+    numbers: Numbers,
+}
+
+impl Named for Row {
+    fn name(&self) -> &'static str {
+        self.name
+    }
+
+    fn desk(&self) -> Box<dyn Desk> {
+        Box::new(Booking::new(self.inputs()))
+    }
 }
 
 const fn row(name: &'static str, call: Call, fill: Fill) -> Row {
@@ -110,14 +130,6 @@ pub const WORST: [Row; 5] = [
     row("blank-250-empty", Call::BlankFile(250), Fill::Empty),
 ];
 
-/// The rows of both tables.
-pub fn all() -> impl Iterator<Item = &'static Row> {
-    USUAL.iter().chain(&WORST)
-}
-
-/// What a call comes to: its count of records, 1 for a single call, or the number of its refusal.
-pub type Outcome = Result<u64, u64>;
-
 /// What a row's call is lent.
 pub struct Inputs {
     pub reporters: Vec<u8>,
@@ -136,7 +148,7 @@ pub struct Inputs {
 }
 
 impl Row {
-    pub fn inputs(&self) -> Inputs {
+    fn inputs(&self) -> Inputs {
         let record = |at| valid_record(at, &self.numbers.of_record(at));
         let valid = |count| file((0..count).map(record));
         let (text, room) = match self.call {
@@ -191,7 +203,7 @@ impl Numbers {
     }
 
     /// The number of a record.
-    fn of_record(self, at: usize) -> String {
+    pub fn of_record(self, at: usize) -> String {
         match self {
             Numbers::Usual => format!("NEW{at}"),
             Numbers::OneSlot => format!("NEW{at:05}").repeat(2),
@@ -225,7 +237,7 @@ fn currencies() -> Vec<u8> {
 }
 
 /// A record like R1 of document 01, of one bank after the other.
-fn valid_record(at: usize, number: &str) -> String {
+pub fn valid_record(at: usize, number: &str) -> String {
     let bank = at % BANKS;
     let quantity = 1_500 + at;
     format!(
@@ -256,11 +268,11 @@ fn with_one_tail(at: usize) -> String {
     format!("{}{}{}", letter(at / 36), letter(at), "A".repeat(14))
 }
 
-fn file(records: impl Iterator<Item = String>) -> Vec<u8> {
+pub fn file(records: impl Iterator<Item = String>) -> Vec<u8> {
     let lines: String = records.map(|record| record + "\r\n").collect();
     format!(
-        "UNB+UNOA:1+{SENDER}+ATBWA+20130903:1015+BENCH1++BWAMS'UNH+BWA+BWA:0'\r\n\
-         {lines}'UNT+3+BWA'UNZ+1+BENCH1'"
+        "UNB+UNOA:1+{SENDER}+ATBWA+20130903:1015+{WORD}++BWAMS'UNH+BWA+BWA:0'\r\n\
+         {lines}'UNT+3+BWA'UNZ+1+{WORD}'"
     )
     .into_bytes()
 }

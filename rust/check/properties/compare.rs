@@ -24,14 +24,28 @@ pub struct FileCall<'a> {
     pub room: usize,
 }
 
-/// What a call came to: its count of records, 1 for a single call, or the number of its refusal.
+/// Arguments of an error-file call; `room` is the length of its buffer.
+#[derive(Clone, Copy)]
+pub struct ErrorCall<'a> {
+    pub report: &'a [u8],
+    pub answers: &'a [u8],
+    pub member: &'a [u8],
+    pub ours: &'a [u8],
+    pub date: &'a [u8],
+    pub time: &'a [u8],
+    pub room: usize,
+}
+
+/// What a call came to: its count of records, 1 for a single call, the length of an error file, or
+/// the number of its refusal.
 pub type Outcome = Result<u64, u64>;
 
 /// What the proved side left behind.
 pub struct Left {
     pub outcome: Outcome,
     pub ledger: Vec<u8>,
-    pub answers: Vec<u8>,
+    /// What it wrote to its buffer: answers, or an error file.
+    pub written: Vec<u8>,
 }
 
 impl Default for Left {
@@ -39,7 +53,7 @@ impl Default for Left {
         Left {
             outcome: Ok(0),
             ledger: Vec::new(),
-            answers: Vec::new(),
+            written: Vec::new(),
         }
     }
 }
@@ -88,35 +102,43 @@ impl Lent {
     }
 }
 
-/// The buffers of both sides, kept from call to call.
+/// The buffers of both sides, kept from call to call. A call that has fewer inputs, or no ledger,
+/// is lent nothing for them.
 #[derive(Default)]
 pub struct Sides {
-    inputs: [Lent; 4],
+    inputs: [Lent; 6],
     ledgers: [Lent; 2],
-    answers: [Lent; 2],
+    outs: [Lent; 2],
     pub left: Left,
 }
 
 impl Sides {
-    fn hold(&mut self, inputs: [&[u8]; 4], ledger: &[u8], room: usize) {
+    fn hold(&mut self, inputs: [&[u8]; 6], ledger: &[u8], room: usize) {
         for (lent, bytes) in self.inputs.iter_mut().zip(inputs) {
             lent.hold(bytes);
         }
         for lent in &mut self.ledgers {
             lent.hold(ledger);
         }
-        for lent in &mut self.answers {
+        for lent in &mut self.outs {
             lent.hold_pattern(room);
         }
     }
 
     /// Makes the call of both sides; the proved side's outcome is left in `left`.
     pub fn record(&mut self, call: &RecordCall) -> Result<(), String> {
-        let inputs = [call.reporters, call.currencies, call.sender, call.record];
+        let inputs = [
+            call.reporters,
+            call.currencies,
+            call.sender,
+            call.record,
+            &[],
+            &[],
+        ];
         self.hold(inputs, call.ledger, call.room);
         let [proved_ledger, twin_ledger] = &mut self.ledgers;
-        let [proved_answer, twin_answer] = &mut self.answers;
-        let [reporters, currencies, sender, record] = &self.inputs;
+        let [proved_answer, twin_answer] = &mut self.outs;
+        let [reporters, currencies, sender, record, ..] = &self.inputs;
         let reply = raw::record(
             reporters.bytes(),
             currencies.bytes(),
@@ -135,16 +157,16 @@ impl Sides {
         );
         let proved = if reply == 0 { Ok(1) } else { Err(reply) };
         let twin = twin.map(|()| 1).map_err(twin::Refusal::number);
-        self.compare(inputs, call.ledger, proved, twin)
+        self.compare(inputs, call.ledger, proved, twin, ANSWER_SIZE)
     }
 
     /// Makes the call of both sides; the proved side's outcome is left in `left`.
     pub fn file(&mut self, call: &FileCall) -> Result<(), String> {
-        let inputs = [call.reporters, call.currencies, call.file, &[]];
+        let inputs = [call.reporters, call.currencies, call.file, &[], &[], &[]];
         self.hold(inputs, call.ledger, call.room);
         let [proved_ledger, twin_ledger] = &mut self.ledgers;
-        let [proved_answers, twin_answers] = &mut self.answers;
-        let [reporters, currencies, file, _] = &self.inputs;
+        let [proved_answers, twin_answers] = &mut self.outs;
+        let [reporters, currencies, file, ..] = &self.inputs;
         let mut words = [WORD; 3];
         let reply = raw::file(
             file.bytes(),
@@ -161,51 +183,87 @@ impl Sides {
             twin_ledger.bytes_mut(),
             twin_answers.bytes_mut(),
         );
-        let [before, records, after] = words;
-        let proved = if reply == 0 { Ok(records) } else { Err(reply) };
+        let proved = told(reply, words);
         let twin = twin
             .map(|count| count as u64)
             .map_err(twin::Refusal::number);
-        self.compare(inputs, call.ledger, proved, twin)?;
-        if (before, after) != (WORD, WORD) {
-            return Err("words beside the lent one were changed".to_string());
-        }
-        if reply != 0 && records != WORD {
-            return Err("a refused call wrote its lent word".to_string());
-        }
-        Ok(())
+        self.compare(inputs, call.ledger, proved, twin, ANSWER_SIZE)?;
+        words_kept(reply, words)
     }
 
-    /// Compares what both sides did.
+    /// Makes the call of both sides; the proved side's outcome is left in `left`.
+    pub fn error_file(&mut self, call: &ErrorCall) -> Result<(), String> {
+        let inputs = [
+            call.report,
+            call.answers,
+            call.member,
+            call.ours,
+            call.date,
+            call.time,
+        ];
+        self.hold(inputs, &[], call.room);
+        let [proved_out, twin_out] = &mut self.outs;
+        let [report, answers, member, ours, date, time] = &self.inputs;
+        let mut words = [WORD; 3];
+        let reply = raw::error_file(
+            report.bytes(),
+            answers.bytes(),
+            member.bytes(),
+            ours.bytes(),
+            date.bytes(),
+            time.bytes(),
+            proved_out.bytes_mut(),
+            &mut words[1],
+        );
+        let twin = twin::error_file(
+            call.report,
+            call.answers,
+            call.member,
+            call.ours,
+            call.date,
+            call.time,
+            twin_out.bytes_mut(),
+        );
+        let proved = told(reply, words);
+        let twin = twin
+            .map(|length| length as u64)
+            .map_err(twin::Refusal::number);
+        self.compare(inputs, &[], proved, twin, 1)?;
+        words_kept(reply, words)
+    }
+
+    /// Compares what both sides did; an accepted call has written so many bytes for each that its
+    /// outcome counts.
     fn compare(
         &mut self,
-        inputs: [&[u8]; 4],
+        inputs: [&[u8]; 6],
         ledger: &[u8],
         proved: Outcome,
         twin: Outcome,
+        each: usize,
     ) -> Result<(), String> {
         let [proved_ledger, twin_ledger] = &self.ledgers;
-        let [proved_answers, twin_answers] = &self.answers;
-        let answers = proved_answers.bytes();
+        let [proved_out, twin_out] = &self.outs;
+        let out = proved_out.bytes();
         // A refused call has written nothing.
-        let written = proved.map_or(0, |count| ANSWER_SIZE.saturating_mul(count as usize));
-        let kept = written.min(answers.len());
+        let written = proved.map_or(0, |count| each.saturating_mul(count as usize));
+        let kept = written.min(out.len());
 
         self.left.outcome = proved;
         self.left.ledger.clear();
         self.left.ledger.extend_from_slice(proved_ledger.bytes());
-        self.left.answers.clear();
-        self.left.answers.extend_from_slice(&answers[..kept]);
+        self.left.written.clear();
+        self.left.written.extend_from_slice(&out[..kept]);
 
         let mut wrong = Vec::new();
         if proved != twin {
             wrong.push(format!("outcomes {proved:?} and {twin:?} (proved, twin)"));
         }
-        if answers != twin_answers.bytes() {
+        if out != twin_out.bytes() {
             wrong.push(format!(
-                "answers {:02x?} and {:02x?}",
-                &answers[..kept],
-                &twin_answers.bytes()[..kept]
+                "wrote \"{}\" and \"{}\"",
+                out[..kept].escape_ascii(),
+                twin_out.bytes()[..kept].escape_ascii()
             ));
         }
         if proved_ledger.bytes() != twin_ledger.bytes() {
@@ -216,14 +274,14 @@ impl Sides {
         if proved.is_err() && proved_ledger.bytes() != ledger {
             wrong.push("a refused call changed the ledger".to_string());
         }
-        let untouched = answers.iter().enumerate().skip(kept);
+        let untouched = out.iter().enumerate().skip(kept);
         if untouched.clone().any(|(at, &byte)| byte != pattern(at)) {
-            wrong.push("the rest of the answer buffer was changed".to_string());
+            wrong.push("the rest of the buffer was changed".to_string());
         }
-        if written > answers.len() {
-            wrong.push("accepted without room for the answers".to_string());
+        if written > out.len() {
+            wrong.push("accepted without room for what is written".to_string());
         }
-        let lent = self.inputs.iter().chain([proved_ledger, proved_answers]);
+        let lent = self.inputs.iter().chain([proved_ledger, proved_out]);
         if !lent.clone().all(Lent::is_guarded) {
             wrong.push("bytes outside of a lent buffer were changed".to_string());
         }
@@ -241,4 +299,24 @@ impl Sides {
             Err(wrong.join("; "))
         }
     }
+}
+
+/// What a call came to that tells a number in a lent word, the middle one of three.
+fn told(reply: u64, words: [u64; 3]) -> Outcome {
+    if reply == 0 {
+        Ok(words[1])
+    } else {
+        Err(reply)
+    }
+}
+
+/// Whether a call left the words beside the lent one, and a refused call that one too.
+fn words_kept(reply: u64, [before, lent, after]: [u64; 3]) -> Result<(), String> {
+    if (before, after) != (WORD, WORD) {
+        return Err("words beside the lent one were changed".to_string());
+    }
+    if reply != 0 && lent != WORD {
+        return Err("a refused call wrote its lent word".to_string());
+    }
+    Ok(())
 }

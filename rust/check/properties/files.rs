@@ -11,8 +11,8 @@ use crate::tally::Check;
 use crate::values::{date, name, near, near_date, near_time, time, CAPITALS};
 use crate::world::{ledger, World, LEDGER_SIZE};
 
-const LONGEST_FILE: usize = 32_768;
-const MOST_RECORDS: usize = 1_024;
+pub const LONGEST_FILE: usize = 32_768;
+pub const MOST_RECORDS: usize = 1_024;
 
 /// A file in the parts of its layout.
 #[derive(Clone)]
@@ -52,13 +52,19 @@ impl Parts {
         }
     }
 
-    /// A valid file of a random sender.
-    fn random(rng: &mut Rng, world: &World, records: &[Vec<u8>]) -> Self {
-        let word = control_word(rng);
-        let mut parts = Parts::new(&rng.pick(&world.banks).mailbox, &word, records);
+    /// A valid file of this sender, on any date.
+    pub fn dated(rng: &mut Rng, sender: &[u8], word: &[u8], records: &[Vec<u8>]) -> Self {
+        let mut parts = Parts::new(sender, word, records);
         parts.date = date(rng);
         parts.time = time(rng, false);
         parts
+    }
+
+    /// A valid file of a random sender.
+    pub fn random(rng: &mut Rng, world: &World, records: &[Vec<u8>]) -> Self {
+        let word = control_word(rng);
+        let sender = &rng.pick(&world.banks).mailbox;
+        Parts::dated(rng, sender, &word, records)
     }
 
     pub fn to_bytes(&self) -> Vec<u8> {
@@ -109,7 +115,7 @@ pub fn control_word(rng: &mut Rng) -> Vec<u8> {
 }
 
 /// Records of the banks behind a mailbox, numbers and cancellations included.
-fn records(rng: &mut Rng, world: &World, ledger: &[u8], count: usize) -> Vec<Vec<u8>> {
+pub fn records(rng: &mut Rng, world: &World, ledger: &[u8], count: usize) -> Vec<Vec<u8>> {
     let mut records = Vec::new();
     let mut numbers = Vec::new();
     for _ in 0..count {
@@ -134,13 +140,13 @@ fn records(rng: &mut Rng, world: &World, ledger: &[u8], count: usize) -> Vec<Vec
 }
 
 /// A sound setting for file calls.
-struct Desk {
-    world: World,
-    ledger: Vec<u8>,
+pub struct Desk {
+    pub world: World,
+    pub ledger: Vec<u8>,
 }
 
 impl Desk {
-    fn random(rng: &mut Rng) -> Self {
+    pub fn random(rng: &mut Rng) -> Self {
         let any = rng.within(1..=16);
         let count = *rng.pick(&[any, 3, 16]);
         Desk {
@@ -182,7 +188,7 @@ pub fn valid_files(check: &mut Check, rng: &mut Rng, count: usize) {
         }
         let call = desk.call(&file, need + rng.below(40));
         let left = check.file_expecting(&call, Some(Ok(lines.len() as u64)), "valid file");
-        let (after, answers) = (left.ledger.clone(), left.answers.clone());
+        let (after, answers) = (left.ledger.clone(), left.written.clone());
 
         let mut ledger = desk.ledger.clone();
         let mut singly = vec![0; need];
@@ -203,8 +209,38 @@ pub fn valid_files(check: &mut Check, rng: &mut Rng, count: usize) {
     }
 }
 
-/// The worked file: one byte replaced, taken out or put in, everywhere outside of its records,
-/// and the file cut off after each byte.
+/// One byte of a file replaced, taken out or put in, everywhere outside of its records, and the
+/// file cut off after each byte.
+pub fn every_change(file: &[u8], mut changed: impl FnMut(&[u8])) {
+    let head = file.iter().position(|&byte| byte == b'\r').expect("a body");
+    let body_end = file
+        .iter()
+        .rposition(|&byte| byte == b'\r')
+        .expect("a body");
+    let framing = (0..head + 12).chain(body_end - 4..file.len());
+    for at in framing {
+        for byte in 0..=255 {
+            let mut file = file.to_vec();
+            file[at] = byte;
+            changed(&file);
+        }
+        for byte in [
+            b'A', b'0', b'+', b'\'', b':', b'?', b' ', b'\r', b'\n', 0, 0xff,
+        ] {
+            let mut file = file.to_vec();
+            file.insert(at, byte);
+            changed(&file);
+        }
+        let mut file = file.to_vec();
+        file.remove(at);
+        changed(&file);
+    }
+    for end in 0..=file.len() {
+        changed(&file[..end]);
+    }
+}
+
+/// The worked file with every change outside of its records, and with a byte behind it.
 pub fn every_byte(check: &mut Check) {
     check.section("files: every byte of a file replaced");
     let world = World::worked();
@@ -214,33 +250,10 @@ pub fn every_byte(check: &mut Check) {
     };
     let records = worked_records();
     let file = Parts::new(b"MBONE", b"W1", &records[..1]).to_bytes();
-    let head = file.iter().position(|&byte| byte == b'\r').expect("a body");
-    let body_end = file
-        .iter()
-        .rposition(|&byte| byte == b'\r')
-        .expect("a body");
-    let framing = (0..head + 12).chain(body_end - 4..file.len());
     let room = 4 * ANSWER_SIZE;
-    for at in framing {
-        for byte in 0..=255 {
-            let mut changed = file.clone();
-            changed[at] = byte;
-            check.file(&desk.call(&changed, room));
-        }
-        for byte in [
-            b'A', b'0', b'+', b'\'', b':', b'?', b' ', b'\r', b'\n', 0, 0xff,
-        ] {
-            let mut changed = file.clone();
-            changed.insert(at, byte);
-            check.file(&desk.call(&changed, room));
-        }
-        let mut changed = file.clone();
-        changed.remove(at);
-        check.file(&desk.call(&changed, room));
-    }
-    for end in 0..=file.len() {
-        check.file(&desk.call(&file[..end], room));
-    }
+    every_change(&file, |changed| {
+        check.file(&desk.call(changed, room));
+    });
     for byte in 0..=255 {
         let longer = [file.as_slice(), &[byte]].concat();
         check.file_expecting(&desk.call(&longer, room), Some(Err(9)), "longer file");
@@ -414,10 +427,10 @@ pub fn counts_and_lengths(check: &mut Check, rng: &mut Rng, rounds: usize) {
 }
 
 /// A change that a file is refused for, whatever else is wrong with later parts.
-type Damage = fn(&mut Rng, &mut Parts);
+pub type Damage = fn(&mut Rng, &mut Parts);
 
 /// Damages by the refusal that each is due; each part of the layout has its own.
-const DAMAGES: &[(u64, &str, Damage)] = &[
+pub const DAMAGES: &[(u64, &str, Damage)] = &[
     (5, "start altered", |rng, parts| {
         let at = rng.below(parts.start.len());
         parts.start[at] ^= 0x20;
@@ -573,6 +586,21 @@ pub fn damage(rng: &mut Rng, parts: &mut Parts) {
     damage(rng, parts);
 }
 
+/// Now and then damages a later part too; the refusal that was due stays the one that is.
+pub fn damage_later_part(rng: &mut Rng, due: u64, parts: &mut Parts) {
+    let &(number, _, other) = rng.pick(DAMAGES);
+    let is_later_part = match due {
+        5 | 7 => number >= 8,
+        6 => number >= 7,
+        8 => number == 10,
+        9 | 10 => number == 11,
+        _ => false,
+    };
+    if is_later_part {
+        other(rng, parts);
+    }
+}
+
 /// Each damage alone, and damages of several parts at once: the lowest number is due.
 pub fn damaged_files(check: &mut Check, rng: &mut Rng, rounds: usize) {
     check.section("files: each part damaged, alone and together");
@@ -585,18 +613,7 @@ pub fn damaged_files(check: &mut Check, rng: &mut Rng, rounds: usize) {
             damage(rng, &mut parts);
             let mut call_due = due;
             let mut room = 20_000;
-            // A later part may be damaged too; the first stays the one that is due.
-            let &(number, _, other) = rng.pick(DAMAGES);
-            let is_other_part = match due {
-                5 | 7 => number >= 8,
-                6 => number >= 7,
-                8 => number == 10,
-                9 | 10 => number == 11,
-                _ => false,
-            };
-            if is_other_part {
-                other(rng, &mut parts);
-            }
+            damage_later_part(rng, due, &mut parts);
             if rng.chance(30) {
                 room = 0;
             }

@@ -2,13 +2,15 @@
 //! leave is compared. Seeds are fixed, so each run makes the same cases.
 //!
 //! The last line printed is `N passed, M failed`; what is counted are groups of up to 1,000 cases,
-//! and one for each place and each refusal that has to be hit.
+//! and one for each place, each refusal and each sight of an error file that has to be hit.
 
 mod compare;
 mod damage;
+mod errors;
 mod files;
 mod lists;
 mod nulls;
+mod read_back;
 mod records;
 mod rng;
 mod singles;
@@ -45,6 +47,18 @@ fn main() -> ExitCode {
     damage::every_byte(&mut check, &mut Rng::new(14));
     damage::random_bytes(&mut check, &mut Rng::new(15), 10_000);
     nulls::null_pointers(&mut check, &mut Rng::new(17), 20);
+    nulls::error_files(&mut check);
+    errors::booked_reports(&mut check, &mut Rng::new(18), 500);
+    errors::forged_answers(&mut check, &mut Rng::new(19), 3_000);
+    errors::every_code(&mut check, &mut Rng::new(20));
+    errors::every_byte(&mut check, &mut Rng::new(21));
+    errors::reports(&mut check, &mut Rng::new(22));
+    errors::dates_and_times(&mut check, &mut Rng::new(23), 10_000);
+    errors::damaged(&mut check, &mut Rng::new(24), 200);
+    errors::order(&mut check, &mut Rng::new(25), 100);
+    errors::long_lists(&mut check, &mut Rng::new(26), 60);
+    errors::edited(&mut check, &mut Rng::new(27), 30_000);
+    errors::shared_lists(&mut check, &mut Rng::new(28), 1_000);
 
     let (passed, failed) = check.report();
     println!("{passed} passed, {failed} failed");

@@ -43,6 +43,24 @@ extern "C" {
     ) -> u64;
 
     fn roselhanda_field(record: *const u8, record_length: u64, n: u64, length: *mut u64) -> u64;
+
+    fn roselhanda_error_file(
+        report: *const u8,
+        report_length: u64,
+        answers: *const u8,
+        answers_length: u64,
+        member_texts: *const u8,
+        member_texts_length: u64,
+        our_texts: *const u8,
+        our_texts_length: u64,
+        date: *const u8,
+        date_length: u64,
+        time: *const u8,
+        time_length: u64,
+        out: *mut u8,
+        out_length: u64,
+        written: *mut u64,
+    ) -> u64;
 }
 
 /// What a call is lent; a slice that is empty is lent as a null pointer.
@@ -208,5 +226,92 @@ pub fn null_pointers(check: &mut Check, rng: &mut Rng, rounds: usize) {
         check.case((start, length) == (0, 0), || {
             format!("field {n} of a null record is ({start}, {length})")
         });
+    }
+}
+
+/// What an error-file call is lent: report, answers, the member's list and ours, date, time, and
+/// the buffer. A slice that is empty is lent as a null pointer.
+#[derive(Clone, PartialEq, Eq)]
+struct ErrorLent([Vec<u8>; 7]);
+
+impl ErrorLent {
+    /// The call by pointers.
+    fn call(&mut self) -> Outcome {
+        let [inputs @ .., out] = &mut self.0;
+        let [report, answers, member, ours, date, time] =
+            inputs.each_ref().map(|input| read(input));
+        let (out, out_length) = write(out);
+        let mut length = 0;
+        // SAFETY: each pointer is that of a vector of the length beside it, or null with length 0;
+        // all are distinct and live through the call, and the lent word is a local.
+        let reply = unsafe {
+            roselhanda_error_file(
+                report.0,
+                report.1,
+                answers.0,
+                answers.1,
+                member.0,
+                member.1,
+                ours.0,
+                ours.1,
+                date.0,
+                date.1,
+                time.0,
+                time.1,
+                out,
+                out_length,
+                &mut length,
+            )
+        };
+        if reply == 0 {
+            Ok(length)
+        } else {
+            Err(reply)
+        }
+    }
+
+    /// The same call of the twin.
+    fn twin_call(&mut self) -> Outcome {
+        let [report, answers, member, ours, date, time, out] = &mut self.0;
+        twin::error_file(report, answers, member, ours, date, time, out)
+            .map(|length| length as u64)
+            .map_err(twin::Refusal::number)
+    }
+}
+
+/// Each set of the slices of an error-file call empty, and so null: of a report with a refused
+/// record, with one that is not, and without any.
+pub fn error_files(check: &mut Check) {
+    check.section("null pointers for what is empty: error files");
+    let list = |code: u16, text: &str| format!("{code:04}{text:<76}").into_bytes();
+    for codes in [&[9001u16][..], &[0], &[]] {
+        let records = vec![b"record".to_vec(); codes.len()];
+        let answers = codes.iter().flat_map(|code| {
+            let mut answer = [0; ANSWER_SIZE];
+            answer[8..10].copy_from_slice(&code.to_le_bytes());
+            answer
+        });
+        let whole = [
+            Parts::new(b"MBONE", b"W", &records).to_bytes(),
+            answers.collect(),
+            list(9001, "the member says"),
+            list(9001, "we say"),
+            b"20130904".to_vec(),
+            b"0800".to_vec(),
+            vec![0xa5; 200],
+        ];
+        for set in 0..128 {
+            let mut lent = ErrorLent(whole.clone());
+            for (k, slice) in lent.0.iter_mut().enumerate() {
+                if set >> k & 1 == 1 {
+                    slice.clear();
+                }
+            }
+            let mut twin = lent.clone();
+            let (proved, due) = (lent.call(), twin.twin_call());
+            check.case(proved == due && lent == twin, || {
+                format!("slices {set:07b} null: {proved:?}, and {due:?} of the twin")
+            });
+        }
     }
 }

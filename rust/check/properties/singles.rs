@@ -55,7 +55,7 @@ pub fn worked_inputs(check: &mut Check) {
             record,
             room: 20,
         });
-        let answer = Answer::from_bytes(&left.answers).expect("worked inputs are answered");
+        let answer = Answer::from_bytes(&left.written).expect("worked inputs are answered");
         ledger.clone_from(&left.ledger);
         let found = (answer.set(), answer.reporter_row(), answer.booked_row());
         check.case(found == expected, || {
@@ -106,7 +106,7 @@ pub fn published_isins(check: &mut Check) {
                 record: &record.to_bytes(),
                 room: 16,
             });
-            let set = set_of(&left.answers);
+            let set = set_of(&left.written);
             check.case(set == due, || format!("{line} gives the set {set:x}"));
         }
     }
@@ -153,7 +153,7 @@ pub fn edited_records(check: &mut Check, rng: &mut Rng, chains: usize) {
                 record: &record.to_bytes(),
                 room: 16 + rng.below(20),
             });
-            let set = left.outcome.is_ok().then(|| set_of(&left.answers));
+            let set = left.outcome.is_ok().then(|| set_of(&left.written));
             if let (Some(before), Some(set)) = (before, set) {
                 check.beside(before, set);
             }
@@ -183,7 +183,7 @@ pub fn every_byte(check: &mut Check) {
                 room: 16,
             });
             if left.outcome.is_ok() {
-                let set = set_of(&left.answers);
+                let set = set_of(&left.written);
                 check.beside(0, set);
             }
         }

@@ -1,30 +1,42 @@
-//! Counting: cases in groups, hits of places and refusals, and the verdict.
+//! Counting: cases in groups, hits of places, refusals and what error files show, and the verdict.
 
 use std::time::Instant;
 
 use roselhanda::{code_of, ANSWER_SIZE};
 
-use crate::compare::{FileCall, Left, Outcome, RecordCall, Sides};
+use crate::compare::{ErrorCall, FileCall, Left, Outcome, RecordCall, Sides};
+use crate::read_back::{ReadBack, SIGHTS};
 
 /// Cases of one group.
 const GROUP: u64 = 1_000;
-/// Each place and refusal has to be hit at least so often.
+/// Each place, refusal and sight has to be hit at least so often.
 const FEWEST_HITS: u64 = 100;
 /// Failed cases that are shown in full.
 const SHOWN: u64 = 10;
 
-/// The two calls that are counted.
+/// The calls that are counted.
 #[derive(Clone, Copy)]
 enum Kind {
     Record,
     File,
+    ErrorFile,
 }
 
-/// The refusals that each call can give.
-const REFUSALS: [&[usize]; 2] = [
-    &[2, 3, 4, 12, 13, 14],
-    &[1, 2, 3, 4, 5, 6, 7, 8, 9, 10, 11, 12],
-];
+const KINDS: [Kind; 3] = [Kind::Record, Kind::File, Kind::ErrorFile];
+
+impl Kind {
+    /// The refusals that the call can give.
+    fn refusals(self) -> &'static [usize] {
+        match self {
+            Kind::Record => &[2, 3, 4, 12, 13, 14],
+            Kind::File => &[1, 2, 3, 4, 5, 6, 7, 8, 9, 10, 11, 12],
+            Kind::ErrorFile => &[1, 5, 6, 7, 8, 9, 10, 11, 15, 16, 17, 18, 19],
+        }
+    }
+}
+
+/// One more than the last refusal.
+const NUMBERS: usize = 20;
 
 /// How often a place was seen.
 #[derive(Clone, Copy, Default)]
@@ -34,6 +46,8 @@ struct PlaceHits {
     held: u64,
     /// Judged and held one edit away from a case where it failed.
     beside: u64,
+    /// Its code was told in an error file.
+    told: u64,
 }
 
 #[derive(Default)]
@@ -55,7 +69,8 @@ pub struct Check {
     shown: u64,
     places: [PlaceHits; 64],
     /// Of each kind of call, by number.
-    refusals: [[u64; 15]; 2],
+    refusals: [[u64; NUMBERS]; KINDS.len()],
+    sights: [u64; SIGHTS.len()],
 }
 
 /// Whether a place was judged in an answer with this set of failures.
@@ -86,7 +101,8 @@ impl Check {
             cases: 0,
             shown: 0,
             places: [PlaceHits::default(); 64],
-            refusals: [[0; 15]; 2],
+            refusals: [[0; NUMBERS]; KINDS.len()],
+            sights: [0; SIGHTS.len()],
         }
     }
 
@@ -116,11 +132,7 @@ impl Check {
     }
 
     fn close_group(&mut self) {
-        if self.section.group_failed {
-            self.failed += 1;
-        } else {
-            self.passed += 1;
-        }
+        self.count(!self.section.group_failed);
         self.section.group_failed = false;
     }
 
@@ -187,6 +199,53 @@ impl Check {
         })
     }
 
+    /// One case: an error-file call of both sides, what it wrote read back. Gives what the proved
+    /// side left.
+    pub fn error_file(&mut self, call: &ErrorCall) -> &Left {
+        self.error_file_expecting(call, None, "")
+    }
+
+    /// One case: an error-file call of both sides, with the outcome that the case was made for.
+    pub fn error_file_expecting(
+        &mut self,
+        call: &ErrorCall,
+        due: Option<Outcome>,
+        label: &str,
+    ) -> &Left {
+        let mut verdict = self.sides.error_file(call);
+        if self.sides.left.outcome.is_ok() {
+            match ReadBack::read(call, &self.sides.left.written) {
+                Ok(file) => self.saw(&file),
+                Err(problem) => verdict = verdict.and(Err(problem)),
+            }
+        }
+        self.made(Kind::ErrorFile, verdict, due, || {
+            format!(
+                "{label}\n  report {}\n  answers {}\n  member {}\n  ours {}\n  date {}\n  time {}\n  room {}",
+                shown(call.report),
+                shown(call.answers),
+                shown(call.member),
+                shown(call.ours),
+                shown(call.date),
+                shown(call.time),
+                call.room,
+            )
+        })
+    }
+
+    /// Counts what an error file shows.
+    fn saw(&mut self, file: &ReadBack) {
+        for (hits, (_, count)) in self.sights.iter_mut().zip(SIGHTS) {
+            *hits += count(file);
+        }
+        for told in &file.told {
+            let place = (0..).map_while(code_of).position(|code| code == told.code);
+            if let Some(place) = place {
+                self.places[place].told += 1;
+            }
+        }
+    }
+
     /// Counts a call that was made of both sides, and what it hit.
     fn made(
         &mut self,
@@ -200,9 +259,12 @@ impl Check {
             Some(due) if due != outcome => Err(format!("{outcome:?} where {due:?} is due")),
             _ => Ok(()),
         });
-        match outcome {
-            Ok(_) => count_answers(&mut self.places, &self.sides.left.answers),
-            Err(number) => {
+        match (outcome, kind) {
+            (Ok(_), Kind::Record | Kind::File) => {
+                count_answers(&mut self.places, &self.sides.left.written)
+            }
+            (Ok(_), Kind::ErrorFile) => {}
+            (Err(number), _) => {
                 if let Some(hits) = self.refusals[kind as usize].get_mut(number as usize) {
                     *hits += 1;
                 }
@@ -232,54 +294,60 @@ impl Check {
             "\n{} cases in all; each row below needs {FEWEST_HITS} hits",
             self.cases
         );
-        println!("\nplace  code    failed      held    beside");
-        for (place, hits) in (0..).zip(&self.places) {
-            let ok = hits.failed >= FEWEST_HITS && hits.beside >= FEWEST_HITS;
+        println!("\nplace  code    failed      held    beside      told");
+        for place in 0..64 {
+            let hits = self.places[usize::from(place)];
+            let ok = [hits.failed, hits.beside, hits.told]
+                .iter()
+                .all(|&hits| hits >= FEWEST_HITS);
             println!(
-                "{place:>5}  {:04} {:>9} {:>9} {:>9}{}",
+                "{place:>5}  {:04} {:>9} {:>9} {:>9} {:>9}{}",
                 code_of(place).expect("a place"),
                 hits.failed,
                 hits.held,
                 hits.beside,
+                hits.told,
                 if ok { "" } else { "  TOO FEW" }
             );
-            *(if ok {
-                &mut self.passed
-            } else {
-                &mut self.failed
-            }) += 1;
+            self.count(ok);
         }
-        println!("\nrefusal    record      file");
-        for number in 1..15 {
+        println!("\nrefusal    record      file     error");
+        for number in 1..NUMBERS {
             let mut ok = true;
-            let mut column = |kind: Kind| {
-                let can_occur = REFUSALS[kind as usize].contains(&number);
+            let columns = KINDS.map(|kind| {
                 let hits = self.refusals[kind as usize][number];
-                ok &= if can_occur {
-                    hits >= FEWEST_HITS
-                } else {
-                    hits == 0
-                };
-                if can_occur {
+                if kind.refusals().contains(&number) {
+                    ok &= hits >= FEWEST_HITS;
                     hits.to_string()
                 } else {
+                    ok &= hits == 0;
                     "-".to_string()
                 }
-            };
-            let record = column(Kind::Record);
-            let file = column(Kind::File);
+            });
+            let [record, file, error] = columns;
             println!(
-                "{number:>7} {record:>9} {file:>9}{}",
+                "{number:>7} {record:>9} {file:>9} {error:>9}{}",
                 if ok { "" } else { "  TOO FEW OR NONE DUE" }
             );
-            *(if ok {
-                &mut self.passed
-            } else {
-                &mut self.failed
-            }) += 1;
+            self.count(ok);
+        }
+        println!("\n{:<43} {:>9}", "error files with", "hits");
+        for (hits, (name, _)) in self.sights.into_iter().zip(SIGHTS) {
+            let ok = hits >= FEWEST_HITS;
+            println!("{name:<43} {hits:>9}{}", if ok { "" } else { "  TOO FEW" });
+            self.count(ok);
         }
         println!();
         (self.passed, self.failed)
+    }
+
+    /// Counts what passed or failed.
+    fn count(&mut self, ok: bool) {
+        if ok {
+            self.passed += 1;
+        } else {
+            self.failed += 1;
+        }
     }
 }
 

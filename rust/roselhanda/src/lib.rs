@@ -1,7 +1,7 @@
 //! Safe calls of the proved checks and bookings of securities transaction reports.
 //!
-//! The checks, their proofs and their exact rules (document 01) are elsewhere; this crate lends
-//! them Rust's slices and gives their answers Rust's types.
+//! The checks, their proofs and their exact rules (documents 01 and 02) are elsewhere; this crate
+//! lends them Rust's slices and gives their answers Rust's types.
 //!
 //! ```
 //! use roselhanda::{book_file, book_record, field, Ledger, Refusal, Status, Tables};
@@ -51,6 +51,9 @@ pub use tables::Tables;
 
 /// Most records of a file.
 pub const MOST_RECORDS: usize = 1_024;
+
+/// Bytes of a row of a list of texts.
+pub const TEXT_ROW_SIZE: usize = 80;
 
 /// Judges one record of a sender and books it if no check fails.
 ///
@@ -104,6 +107,70 @@ pub fn field(record: &[u8], n: usize) -> &[u8] {
     let mut length = 0;
     let start = raw::field(record, n as u64, &mut length);
     &record[start as usize..][..length as usize]
+}
+
+/// The error file of a report: its refused records for its sender, each with its code and a text.
+///
+/// The answers are those that [`book_file`] gave for the report, or that [`Answer::from_bytes`] made
+/// of stored ones; only their codes are read. A list of texts is any number of rows of
+/// [`TEXT_ROW_SIZE`] bytes: a code of four digits, and its text with spaces behind it, of bytes from
+/// 0x20 to 0x7E other than the apostrophe. A text is taken from the member's own list where that
+/// holds the code, else from ours. The file is dated by `date` and `time`, `YYYYMMDD` and `HHMM`.
+///
+/// It may be longer than a report may be; a buffer of one's own is for [`raw::error_file`].
+///
+/// ```
+/// use roselhanda::{book_file, error_file, Ledger, Refusal, Tables};
+///
+/// let report = b"UNB+UNOA:1+MBONE+ATBWA+20130903:1015+W1++BWAMS'UNH+BWA+BWA:0'\r\n\
+///     not a record\r\n'UNT+3+BWA'UNZ+1+W1'";
+/// let answers = book_file(&Tables::default(), &mut Ledger::new(), report)?;
+/// assert_eq!(answers[0].first_code(), Some(9001));
+///
+/// let ours = format!("{:04}{:<76}", 9001, "38 semicolons are due");
+/// let file = error_file(report, &answers, b"", ours.as_bytes(), b"20130904", b"0800")?;
+/// assert_eq!(
+///     file,
+///     b"UNB+UNOA:1+ATBWA+MBONE+20130904:0800+W1++BWAMSERR'UNH+BWA+BWERR:0'\r\n\
+///     not a record\r\n9001-38 semicolons are due\r\n'UNT+3+BWA'UNZ+1+W1'"
+/// );
+///
+/// let refusal = error_file(report, &answers, b"", b"", b"20130904", b"0800").unwrap_err();
+/// assert_eq!(refusal.number(), 17);
+/// # Ok::<(), Refusal>(())
+/// ```
+///
+/// # Errors
+///
+/// Refused by 1, 5 to 11 or 15 to 18, the first that applies.
+pub fn error_file(
+    report: &[u8],
+    answers: &[Answer],
+    member_texts: &[u8],
+    our_texts: &[u8],
+    date: &[u8],
+    time: &[u8],
+) -> Result<Vec<u8>, Refusal> {
+    // Its head is five bytes longer than the report's, and behind each refused record stands a
+    // line more: a row of a list at most, with a hyphen, CR and LF.
+    let refused = answers
+        .iter()
+        .filter(|answer| answer.first_code().is_some());
+    let mut file = vec![0; report.len() + 5 + refused.count() * (TEXT_ROW_SIZE + 3)];
+    let answers: Vec<u8> = answers.iter().flat_map(Answer::as_bytes).copied().collect();
+    let mut length = 0;
+    carried_out(raw::error_file(
+        report,
+        &answers,
+        member_texts,
+        our_texts,
+        date,
+        time,
+        &mut file,
+        &mut length,
+    ))?;
+    file.truncate(length as usize);
+    Ok(file)
 }
 
 /// A reply as a result.

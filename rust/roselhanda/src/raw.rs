@@ -40,6 +40,24 @@ mod archive {
             n: u64,
             length: *mut u64,
         ) -> u64;
+
+        pub fn roselhanda_error_file(
+            report: *const u8,
+            report_length: usize,
+            answers: *const u8,
+            answers_length: usize,
+            member_texts: *const u8,
+            member_texts_length: usize,
+            our_texts: *const u8,
+            our_texts_length: usize,
+            date: *const u8,
+            date_length: usize,
+            time: *const u8,
+            time_length: usize,
+            out: *mut u8,
+            out_length: usize,
+            written: *mut u64,
+        ) -> u64;
     }
 }
 
@@ -107,4 +125,39 @@ pub fn field(record: &[u8], n: u64, length: &mut u64) -> u64 {
     // SAFETY: the pointer comes with the length of its slice, slice and word live through the
     // call, and the word is borrowed alone.
     unsafe { archive::roselhanda_field(record.as_ptr(), record.len(), n, length) }
+}
+
+/// The error file: writes it to the start of `out`, and its length to `written`.
+#[expect(clippy::too_many_arguments, reason = "they are those of the C header")]
+pub fn error_file(
+    report: &[u8],
+    answers: &[u8],
+    member_texts: &[u8],
+    our_texts: &[u8],
+    date: &[u8],
+    time: &[u8],
+    out: &mut [u8],
+    written: &mut u64,
+) -> u64 {
+    // SAFETY: each pointer comes with the length of its slice, slices and word live through the
+    // call, and the two that are written are borrowed alone.
+    unsafe {
+        archive::roselhanda_error_file(
+            report.as_ptr(),
+            report.len(),
+            answers.as_ptr(),
+            answers.len(),
+            member_texts.as_ptr(),
+            member_texts.len(),
+            our_texts.as_ptr(),
+            our_texts.len(),
+            date.as_ptr(),
+            date.len(),
+            time.as_ptr(),
+            time.len(),
+            out.as_mut_ptr(),
+            out.len(),
+            written,
+        )
+    }
 }

@@ -12,7 +12,7 @@ impl Refusal {
         Refusal(number)
     }
 
-    /// The number that document 01 gives this refusal, 1 to 14.
+    /// The number that documents 01 and 02 give this refusal, 1 to 19.
     pub fn number(self) -> u64 {
         self.0
     }
@@ -34,6 +34,11 @@ impl Refusal {
             12 => "there is no room for all answers",
             13 => "the sender is no mailbox name",
             14 => "the record is too long, or has an end of line or an apostrophe in it",
+            15 => "the answers are not one to a record, or one has a code that no check has",
+            16 => "a list of texts is malformed, or a code stands twice in it",
+            17 => "a code of the answers has a text in neither list",
+            18 => "the error file is dated on a day or at a time that does not exist",
+            19 => "there is no room for the error file",
             _ => "no reason is known for this number",
         }
     }

@@ -1,7 +1,8 @@
 //! The worked inputs of document 01 through the safe calls.
 
 use roselhanda::{
-    book_file, book_record, code_of, field, Answer, Ledger, Refusal, Status, Tables, LEDGER_SIZE,
+    book_file, book_record, code_of, error_file, field, Answer, Ledger, Refusal, Status, Tables,
+    LEDGER_SIZE, TEXT_ROW_SIZE,
 };
 
 const REPORTERS: &[u8] = b"98001AAAAATW1XXXMBONE   \0\0\0\0\0\0\0\0\
@@ -117,6 +118,90 @@ fn answers_as_bytes() {
     let mut bytes = answer.as_bytes().to_vec();
     bytes[11] = 4;
     assert_eq!(Answer::from_bytes(&bytes), None);
+}
+
+/// A list of texts.
+fn texts(rows: &[(u16, &str)]) -> Vec<u8> {
+    let rows = rows
+        .iter()
+        .map(|(code, text)| format!("{code:04}{text:<76}"));
+    rows.collect::<String>().into_bytes()
+}
+
+fn worked_answers() -> Vec<Answer> {
+    book_file(&tables(), &mut Ledger::new(), REPORT.as_bytes()).unwrap()
+}
+
+#[test]
+fn the_error_file_of_the_worked_report() {
+    let ours = texts(&[
+        (
+            24,
+            "Feld 02: Keine Berechtigung zur Nutzung dieser Identifikation",
+        ),
+        (161, "Feld 16: Ursprungssatz wurde nicht gefunden"),
+        (282, ""),
+    ]);
+    let member = texts(&[(161, "Original not found")]);
+    let file = error_file(
+        REPORT.as_bytes(),
+        &worked_answers(),
+        &member,
+        &ours,
+        b"20130904",
+        b"0800",
+    )
+    .unwrap();
+    let record = |at: usize| REPORT.lines().nth(at).unwrap();
+    assert_eq!(
+        String::from_utf8(file).unwrap(),
+        [
+            "UNB+UNOA:1+ATBWA+MBONE+20130904:0800+W1++BWAMSERR'UNH+BWA+BWERR:0'",
+            record(2),
+            "0024-Feld 02: Keine Berechtigung zur Nutzung dieser Identifikation",
+            record(4),
+            "0161-Original not found",
+            record(5),
+            "0282-",
+            "'UNT+3+BWA'UNZ+1+W1'",
+        ]
+        .join("\r\n")
+    );
+}
+
+#[test]
+fn room_for_the_longest_error_file() {
+    let mut bytes = worked_answers()[1].as_bytes().to_vec();
+    bytes[8..10].copy_from_slice(&9900u16.to_le_bytes());
+    let answers = [Answer::from_bytes(&bytes).unwrap(); 5];
+    let ours = texts(&[(9900, &"~".repeat(TEXT_ROW_SIZE - 4))]);
+    let report = REPORT.as_bytes();
+    let file = error_file(report, &answers, b"", &ours, b"20130904", b"0800").unwrap();
+    assert_eq!(file.len(), report.len() + 5 + 5 * 83);
+}
+
+#[test]
+fn refused_error_files() {
+    let ours = texts(&[(24, "a"), (161, "b"), (282, "c")]);
+    let answers = worked_answers();
+    let report = REPORT.as_bytes();
+    let number = |report: &[u8], answers: &[Answer], ours: &[u8], date: &[u8]| {
+        let file = error_file(report, answers, b"", ours, date, b"2359");
+        file.map_or_else(Refusal::number, |_| 0)
+    };
+    let date = b"20120229";
+    assert_eq!(number(report, &answers, &ours, date), 0);
+    assert_eq!(number(&[b'A'; 32_769], &answers, &ours, date), 1);
+    assert_eq!(number(&report[1..], &answers, &ours, date), 5);
+    assert_eq!(number(report, &answers[1..], &ours, date), 15);
+    assert_eq!(number(report, &answers, &ours[1..], date), 16);
+    assert_eq!(number(report, &answers, &ours[80..], date), 17);
+    assert_eq!(number(report, &answers, &ours, b"20130229"), 18);
+    let refusal = error_file(report, &answers, &ours, b"", date, b"2400").unwrap_err();
+    assert_eq!(
+        refusal.to_string(),
+        "refused 18: the error file is dated on a day or at a time that does not exist"
+    );
 }
 
 #[test]

@@ -155,11 +155,11 @@ pub fn book_file(
     }
     let mut books = Books::open(reporters, currencies, ledger)?;
     let envelope = Envelope::open(file)?;
-    let count = envelope.records.len();
+    let count = envelope.lines.len();
     let (answers, _) = answers.as_chunks_mut();
     let answers = answers.get_mut(..count).ok_or(Refusal::AnswerBuffer)?;
-    for (answer, record) in answers.iter_mut().zip(envelope.records) {
-        *answer = books.book(envelope.sender, record).to_bytes();
+    for (answer, record) in answers.iter_mut().zip(envelope.lines) {
+        *answer = books.book(envelope.head.sender, record).to_bytes();
     }
     Ok(count)
 }

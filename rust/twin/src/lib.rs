@@ -1,4 +1,5 @@
-//! The rules of document 01 in plain safe Rust, written from the paper alone.
+//! The rules of document 01, and the error file of document 02, in plain safe Rust, written from
+//! the papers alone.
 //!
 //! It shares no code with the proved archive: tests compare the two byte for
 //! byte, and the benchmark takes this crate as its yardstick.
@@ -9,6 +10,7 @@
 pub mod calls;
 pub mod checks;
 pub mod envelope;
+pub mod error_file;
 pub mod fields;
 pub mod forms;
 pub mod ledger;
@@ -16,5 +18,6 @@ pub mod refusal;
 pub mod tables;
 
 pub use calls::{book_file, book_record};
+pub use error_file::error_file;
 pub use fields::field;
 pub use refusal::Refusal;

@@ -32,10 +32,20 @@ pub enum Refusal {
     Sender = 13,
     /// The record is too long, or has a byte that ends a record.
     Record = 14,
+    /// The answers are not 16 bytes a record, or one has a code that is no place's.
+    Answers = 15,
+    /// A list of texts is not of its form, or has a code twice.
+    Texts = 16,
+    /// A code of the answers is in neither list of texts.
+    NoText = 17,
+    /// The date or time given for the error file is not real.
+    GivenDateOrTime = 18,
+    /// The buffer is shorter than the error file.
+    Room = 19,
 }
 
 impl Refusal {
-    /// Its number in document 01.
+    /// Its number in documents 01 and 02.
     pub fn number(self) -> u64 {
         self as u64
     }
