@@ -1,9 +1,11 @@
 -- The rule of the table of codes, proved by one test that is computed over it.
 -- Assumes nothing.
-use Prim.Native.Nat.{ℕ, _≤_, _<_}
+use Prim.Native.Nat.{ℕ, _+_, _≤_, _<_}
+use native.Mathlib.Numerals.{add-one}
 use native.Mathlib.Decide.{decLt}
 use native.Mathlib.Omega.{arith}
 use mathlib.Core.Bool.{Bool, true, false, _&&_, not, false≢true}
+use mathlib.Core.Logic.{_≢_}
 use mathlib.Core.Path.{_≡_, refl, ap, sym, _∙_}
 use borrow.Author.Tests.{ltb-true, leb-true, eq-eqb, ne-eqb}
 use lib.Dec.{eqb, leb, ltb}
@@ -34,23 +36,23 @@ pub code-none : (k : ℕ) → 64 ≤ k → codeAt k ≡ 0
 unfolding codeAt codes
 code-none k h = List·getD-eq-default codes 0 h
 
--- a code is unlike that at a place, as a search through the places finds it
+-- whether a code is none: 0 is not; another is by its places, as they are looked at one after another
 abbrev pub isUnlike : ℕ → ℕ → Bool
 isUnlike code k = not (eqb (codeAt k) code)
-
-pub unlike-not : (code k : ℕ) {c : ℕ} → c ≡ codeAt k → c ≡ code → isUnlike code k ≡ false
-unlike-not code k e f = ap not (eq-eqb (codeAt k) code (sym e ∙ f))
-
-pub unlike-so : (code k : ℕ) {c : ℕ} → c ≡ codeAt k → (c ≡ code → ⊥) → isUnlike code k ≡ true
-unlike-so code k e n = ap not (ne-eqb (codeAt k) code (λ z. n (e ∙ z)))
 
 pub no-code-zero : (code : ℕ) → code ≡ 0 → false ≡ isNoCode code
 unfolding isNoCode
 no-code-zero code z = rw (eq-eqb code 0 z) refl
 
-pub no-code-places : (code : ℕ) {r : Bool} → (code ≡ 0 → ⊥) → r ≡ every 64 (isUnlike code) → r ≡ isNoCode code
+pub unlike-more : (code k : ℕ) {none : Bool} → none ≡ every k (isUnlike code) → (none && isUnlike code k) ≡ every (k + 1) (isUnlike code)
+unfolding every
+unlike-more code k e = rw (e, add-one k) refl
+
+pub no-code-places : (code k : ℕ) {none : Bool} → code ≢ 0 → k ≤ 64 → 64 ≤ k → none ≡ every k (isUnlike code) → none ≡ isNoCode code
 unfolding isNoCode
-no-code-places code n e = and-goes _ (ap not (ne-eqb code 0 n)) e
+no-code-places code k some h g e =
+    let last : k ≡ 64 = omega arith in
+    and-goes _ (ap not (ne-eqb code 0 some)) (e ∙ ap (λ (n : ℕ). every n (isUnlike code)) last)
 
 -- what an answer may have as its code: 0, or four digits
 pub code-known : (code : ℕ) → isNoCode code ≡ false → code ≤ 9999

@@ -1,41 +1,33 @@
 use borrow.Author.Needs.{needs}
 use Prim.Native.Nat.{_≤_, _-_}
-use mathlib.Core.Bool.{true}
-use mathlib.Core.Path.{_≡_}
+use mathlib.Core.Path.{_≡_, sym}
 use Rattle.frame.specs.Every.{every}
-use Rattle.frame.proofs.EveryLaws.{every-none, every-more, every-broke, every-done}
-use Rattle.failures.proofs.CodeLaws.{isUnlike, unlike-not, unlike-so, no-code-zero, no-code-places}
+use Rattle.frame.proofs.EveryLaws.{every-none}
+use Rattle.failures.specs.Codes.{codes, codeAt}
+use Rattle.failures.proofs.CodeLaws.{isUnlike, no-code-zero, unlike-more, no-code-places}
 use Rattle.failures.proofs.is_no_code.Statement.{statement}
 use Rattle.failures.proofs.is_no_code.Tie as tie
 
 abbrev Inv-loop : tie.InvT-loop
-Inv-loop code k₀ k = (k ≤ 64) × (every k (isUnlike code) ≡ true)
+Inv-loop code codes none₀ k₀ none k = (k ≤ 64) × (none ≡ every k (isUnlike code))
 
 abbrev μ-loop : tie.MeasureT-loop
-μ-loop code k₀ k = 64 - k
+μ-loop code codes none₀ k₀ none k = 64 - k
 
 returns : tie.Need-returns Inv-loop μ-loop
 returns c = no-code-zero _ (c .if1 .taken)
 
 loop-holds : tie.Need-loop-holds Inv-loop μ-loop
-loop-holds c = (search needs, every-none _)
+loop-holds c = (search needs, sym (every-none (isUnlike (c .before .args .code))))
+
+loop-again : tie.Need-loop-again Inv-loop μ-loop
+unfolding codes codeAt
+loop-again c = (search needs, unlike-more _ (c .before .loop .k) (c .before .loop .inv .1))
 
 returns-2 : tie.Need-returns-2 Inv-loop μ-loop
 returns-2 c =
-    let turn = c .before .before in
-    let l = turn .before .loop in
-    let like = unlike-not _ (l .k) (c .before .code-at .ensures) (c .if2 .taken) in
-    no-code-places _ (turn .before .before .if1 .left) (every-broke 64 _ (l .k) (turn .loop-test .taken) like)
-
-loop-again : tie.Need-loop-again Inv-loop μ-loop
-loop-again c =
-    let c-loop = c .before .before .before .loop in
-    (search needs, every-more _ (c-loop .k) (c-loop .inv .1) (unlike-so _ (c-loop .k) (c .before .code-at .ensures) (c .if2 .left)))
-
-returns-3 : tie.Need-returns-3 Inv-loop μ-loop
-returns-3 c =
-    let at-if1 = c .before .before in
-    no-code-places _ (at-if1 .if1 .left) (every-done 64 _ (c .before .loop .k) (c .before .loop .inv .0) (c .loop-test .left) (c .before .loop .inv .1))
+    let l = c .before .loop in
+    no-code-places _ (l .k) (c .before .before .if1 .left) (l .inv .0) (c .loop-test .left) (l .inv .1)
 
 pub is-no-code-spec : {M : Type 1} → statement M
 is-no-code-spec =
@@ -45,9 +37,9 @@ is-no-code-spec =
     μ-loop
     returns
     loop-holds
-    (λ c κs. tt)
-    returns-2
+    (λ c. search needs)
+    (λ c. search needs)
     (λ c. search needs)
     (λ c. search needs)
     loop-again
-    returns-3)
+    returns-2)
