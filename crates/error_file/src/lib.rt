@@ -65,7 +65,7 @@ fn answers_ok(answers: &[u8], n: usize) -> bool
 }
 
 // Whether each of the first n answers has a code that needs no text, or has one by the index.
-fn codes_named(rows: &[u16; 10001], answers: &[u8], n: usize) -> bool
+fn codes_named(rows: &[u16; texts::INDEX_SIZE], answers: &[u8], n: usize) -> bool
     ensures { λ r. ⌜ r ≡ every n (isNamed (now (rows .entry)) (now (answers .entry))) ⌝ }
 {
     let mut k = 0;
@@ -80,7 +80,13 @@ fn codes_named(rows: &[u16; 10001], answers: &[u8], n: usize) -> bool
 }
 
 // The number of refusals 15 to 18 that applies first to a report of n records; 0 for none.
-fn flaw<'a>(answers: &[u8], rows: &[u16; 10001], date: &'a [u8], time: &'a [u8], n: usize) -> u8
+fn flaw<'a>(
+    answers: &[u8],
+    rows: &[u16; texts::INDEX_SIZE],
+    date: &'a [u8],
+    time: &'a [u8],
+    n: usize,
+) -> u8
     requires { ⌜ n ≤ recordCountLimit ⌝ }
     ensures { λ r. ⌜ r ≡ firstOf
         (unless (answersOk n (now (answers .entry))) 15
@@ -119,7 +125,7 @@ fn line_after(body: &[u8], at: usize) -> usize
 fn piece_size<'a>(
     member: &'a [u8],
     ours: &'a [u8],
-    rows: &[u16; 10001],
+    rows: &[u16; texts::INDEX_SIZE],
     code: u16,
     line: &[u8],
 ) -> usize
@@ -137,7 +143,7 @@ fn piece_size<'a>(
 fn pieces_size<'a>(
     member: &'a [u8],
     ours: &'a [u8],
-    rows: &[u16; 10001],
+    rows: &[u16; texts::INDEX_SIZE],
     answers: &[u8],
     body: &[u8],
 ) -> usize
@@ -163,7 +169,7 @@ fn append_piece<'a>(
     at: usize,
     member: &'a [u8],
     ours: &'a [u8],
-    rows: &[u16; 10001],
+    rows: &[u16; texts::INDEX_SIZE],
     code: u16,
     line: &[u8],
 ) -> usize
@@ -188,7 +194,7 @@ fn append_pieces<'a>(
     start: usize,
     member: &'a [u8],
     ours: &'a [u8],
-    rows: &[u16; 10001],
+    rows: &[u16; texts::INDEX_SIZE],
     answers: &[u8],
     body: &[u8],
 ) -> usize
@@ -224,7 +230,7 @@ fn write_opened<'a>(
     answers: &[u8],
     member: &'a [u8],
     ours: &'a [u8],
-    rows: &[u16; 10001],
+    rows: &[u16; texts::INDEX_SIZE],
     date: &'a [u8],
     time: &'a [u8],
     out: &mut [u8],
@@ -275,7 +281,7 @@ pub fn write<'a>(
     let Opened::Report(l) = opened else {
         return Wrote::Refused(envelope::refusal_in(opened));
     };
-    let mut rows = [texts::BLANK; 10001];
+    let mut rows = [texts::BLANK; texts::INDEX_SIZE];
     texts::index(member, ours, &mut rows);
     let n = flaw(answers, &rows, date, time, l.records);
     if n != 0 {

@@ -17,7 +17,7 @@ use Rattle.frame.proofs.StoreLaws.{store-more}
 use Rattle.text.specs.Class.{isDigit, isTextByte}
 use Rattle.text.specs.Bytes.{all}
 use Rattle.texts.specs.Texts.{textCodeSize, codeCount, textCount, textRow, textCode, textRowOk, textsOk, rowAmong, rowNumber, holdsText}
-use Rattle.texts.specs.Index.{indexSize, blankEntry, memberBase, entryOf, valuesBelow, blankIndex, indexOf, indexIn, isListed, entryIn, namesRow}
+use Rattle.texts.specs.Index.{indexSize, blankEntry, memberBase, entryOf, valuesBelow, blankIndex, indexOf, isListed, entryIn, namesRow}
 use Rattle.texts.specs.Steps.{Open, Entered}
 use Rattle.texts.proofs.TextLaws.{row-most, row-away, row-here, row-none-yet, row-new, row-other, row-again, row-good, list-count}
 
@@ -222,12 +222,3 @@ module _ (member ours : List ℕ) where
         go : (b : Bool) → ltb blankEntry (cond b (memberBase + rowNumber member code) (blankEntry + rowNumber ours code)) ≡ (b || holdsText ours code)
         go true = lt-ltb blankEntry (memberBase + rowNumber member code) (omega arith)
         go false = above (rowNumber ours code)
-
--- the index in lent entries
-pub index-left : (rows member ours : List ℕ) → length rows ≢ indexSize → rows ≡ indexIn rows member ours
-unfolding indexIn
-index-left rows member ours n = rw (ne-eqb (length rows) indexSize n) refl
-
-pub index-made : (rows member ours : List ℕ) → length rows ≡ indexSize → indexOf member ours ≡ indexIn rows member ours
-unfolding indexIn
-index-made rows member ours e = rw (eq-eqb (length rows) indexSize e) refl

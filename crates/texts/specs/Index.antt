@@ -4,8 +4,8 @@ use Prim.Native.Nat.{ℕ, zero, suc, _+_, _-_}
 use mathlib.Core.Bool.{Bool, _&&_, cond}
 use mathlib.Core.List.{List, [], _∷_, _++_}
 use denote.Ref.{RefT, now}
-use lib.Dec.{eqb, ltb}
-use lib.ListN.{length, getD, replicate}
+use lib.Dec.{ltb}
+use lib.ListN.{getD, replicate}
 use Rattle.text.specs.Part.{Lies}
 use Rattle.texts.specs.Texts.{codeCount, textsOk, rowNumber, holdsText, textAt, textStart}
 
@@ -36,10 +36,6 @@ blankIndex = replicate indexSize blankEntry
 -- the index of two lists: blank where one of them is not of its form
 unfoldable pub indexOf : List ℕ → List ℕ → List ℕ
 indexOf member ours = cond (textsOk member && textsOk ours) (valuesBelow codeCount (entryOf member ours) ++ (2 ∷ [])) blankIndex
-
--- the same in lent entries, which are left where they are more or fewer
-unfoldable pub indexIn : List ℕ → List ℕ → List ℕ → List ℕ
-indexIn rows member ours = cond (eqb (length rows) indexSize) (indexOf member ours) rows
 
 -- whether both lists are of their form, by their index
 abbrev pub isListed : List ℕ → Bool

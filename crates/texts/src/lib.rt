@@ -8,7 +8,7 @@ ghost use Rattle.text.specs.Class.{isDigit, isTextByte};
 ghost use Rattle.text.specs.Bytes.{all};
 ghost use Rattle.text.specs.Part.{Lies};
 ghost use Rattle.texts.specs.Texts.{textRowSize, textCodeSize, codeCount, textCount, textCode, textRowOk, textsOk, trimmed, textAt, textStart};
-ghost use Rattle.texts.specs.Index.{indexSize, blankIndex, indexOf, indexIn, isListed, entryIn, namesRow, HandedBy};
+ghost use Rattle.texts.specs.Index.{indexSize, blankIndex, indexOf, isListed, entryIn, namesRow, HandedBy};
 ghost use Rattle.texts.specs.Steps.{Open, Entered};
 use text::Class;
 
@@ -120,26 +120,23 @@ fn fill<'a>(member: &'a [u8], ours: &'a [u8], rows: &mut [u16])
     rows[CODE_COUNT] = 2;
 }
 
-// Makes the index of the member's list and ours in rows: blank where one of them is not of its form or has a code twice. Rows of another size are left.
-pub fn index<'a>(member: &'a [u8], ours: &'a [u8], rows: &mut [u16])
-    ensures { λ r. ⌜ now (rows .exit) ≡ indexIn (now (rows .entry)) (now (member .entry)) (now (ours .entry)) ⌝ }
+// Makes the index of the member's list and ours: blank where one of them is not of its form or has a code twice.
+pub fn index<'a>(member: &'a [u8], ours: &'a [u8], rows: &mut [u16; INDEX_SIZE])
+    ensures { λ r. ⌜ now (rows .exit) ≡ indexOf (now (member .entry)) (now (ours .entry)) ⌝ }
 {
-    if rows.len() != INDEX_SIZE {
-        return;
-    }
     blank(rows);
     fill(member, ours, rows);
 }
 
 // Whether both lists are of their form, by their index.
-pub fn is_listed(rows: &[u16; 10001]) -> bool
+pub fn is_listed(rows: &[u16; INDEX_SIZE]) -> bool
     ensures { λ r. ⌜ r ≡ isListed (now (rows .entry)) ⌝ }
 {
     BLANK < rows[CODE_COUNT]
 }
 
 // The entry of a code in an index; blank where it has more than four digits.
-fn entry(rows: &[u16; 10001], code: u16) -> u16
+fn entry(rows: &[u16; INDEX_SIZE], code: u16) -> u16
     ensures { λ r. ⌜ r ≡ entryIn (now (rows .entry)) code ⌝ }
 {
     let k = code as usize;
@@ -147,7 +144,7 @@ fn entry(rows: &[u16; 10001], code: u16) -> u16
 }
 
 // Whether one of the lists holds a code, by their index.
-pub fn holds(rows: &[u16; 10001], code: u16) -> bool
+pub fn holds(rows: &[u16; INDEX_SIZE], code: u16) -> bool
     ensures { λ r. ⌜ r ≡ namesRow (now (rows .entry)) code ⌝ }
 {
     BLANK < entry(rows, code)
@@ -184,7 +181,12 @@ fn text_at(t: &[u8], n: usize) -> &[u8]
 }
 
 // The text of a code, handed out as a part of the list that the index names.
-pub fn text_of<'a>(member: &'a [u8], ours: &'a [u8], rows: &[u16; 10001], code: u16) -> &'a [u8]
+pub fn text_of<'a>(
+    member: &'a [u8],
+    ours: &'a [u8],
+    rows: &[u16; INDEX_SIZE],
+    code: u16,
+) -> &'a [u8]
     ensures { λ r. ⌜ HandedBy (entryIn (now (rows .entry)) code) (member .entry) (ours .entry) r ⌝ }
 {
     let n = entry(rows, code);
