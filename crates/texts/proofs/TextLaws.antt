@@ -164,19 +164,19 @@ module _ (t : List ℕ) (ok : textsOk t ≡ true) where
 
 -- what makes a list broken
 module _ (t : List ℕ) where
-  unless : (b : Bool) → (b ≡ true → ⊥) → false ≡ b
-  unless true f = absurd (f refl)
-  unless false f = refl
+  refuted : (b : Bool) → (b ≡ true → ⊥) → false ≡ b
+  refuted true f = absurd (f refl)
+  refuted false f = refl
 
   pub broken-size : length t % textRowSize ≢ 0 → false ≡ textsOk t
   unfolding textsOk
   broken-size n = rw (ne-eqb _ _ n) refl
 
   pub broken-count : codeCount < textCount t → false ≡ textsOk t
-  broken-count h = unless (textsOk t) (λ ok. omega (arith, h, list-count t ok))
+  broken-count h = refuted (textsOk t) (λ ok. omega (arith, h, list-count t ok))
 
   pub broken-bytes : all isTextByte t ≡ false → false ≡ textsOk t
-  broken-bytes e = unless (textsOk t) (λ ok. false≢true (sym e ∙ list-bytes t ok))
+  broken-bytes e = refuted (textsOk t) (λ ok. false≢true (sym e ∙ list-bytes t ok))
 
   pub rows-decide : length t % textRowSize ≡ 0 → {r : Bool} → r ≡ every (textCount t) (textRowOk t) → r ≡ textsOk t
   unfolding textsOk
@@ -332,11 +332,11 @@ module _ (t : List ℕ) (n : ℕ) (low : 1 ≤ n) (high : n ≤ textCount t) whe
       let room : r ≤ n * textRowSize - start = trimmed-room _ (drop start t) e in
       omega (arith, room, low, high)
 
-  pub text-handed : {r : ℕ}
+  pub text-cut : {r : ℕ}
       → r ≡ trimmed (take (n * textRowSize - (n * textRowSize - textRowSize + textCodeSize)) (drop (n * textRowSize - textRowSize + textCodeSize) t))
       → take (n * textRowSize - textRowSize + textCodeSize + r - (n * textRowSize - textRowSize + textCodeSize))
       (drop (n * textRowSize - textRowSize + textCodeSize) t) ≡ textAt t n
-  text-handed {r} e =
+  text-cut {r} e =
       let start : ℕ = n * textRowSize - textRowSize + textCodeSize in
       let room : r ≤ n * textRowSize - start = trimmed-room _ (drop start t) e in
       let size : start + r - start ≡ r = omega arith in

@@ -1,6 +1,6 @@
 use borrow.Author.Needs.{needs}
 use native.Mathlib.Omega.{arith}
-use Prim.Native.Nat.{_+_, _≤_, _-_}
+use Prim.Native.Nat.{_+_, _≤_, _<_, _-_}
 use mathlib.Core.Path.{_≡_, refl}
 use lib.ListN.{length, drop, length-set}
 use Rattle.page.specs.Page.{page, appended}
@@ -20,11 +20,11 @@ loop-holds c = (refl, search needs, copy-start _ _ _)
 
 loop-again : tie.Need-loop-again Inv-loop μ-loop
 loop-again c =
-    let c-loop = c .before .before .loop in (
-      simp length-set (c-loop .inv .0),
-      search needs,
-      copy-more (c-loop .out) (c .before .before .before .args .at) _ (c-loop .i) (omega (arith, c-loop .inv .0, c .before .before .before .pre, c .before .loop-test .taken)) (c .before .loop-test .taken) (c-loop .inv .2),
-    )
+    let l = c .before .before .loop in
+    let more = c .before .loop-test .taken in
+    let start = c .before .before .before in
+    let room : start .args .at + l .i < length (l .out) = omega (arith, l .inv .0, start .pre, more) in
+    (simp length-set (l .inv .0), search needs, copy-more (l .out) (start .args .at) _ (l .i) room more (l .inv .2))
 
 returns : tie.Need-returns Inv-loop μ-loop
 returns c = appended-done (c .before .before .args .piece .now) (c .before .loop .i) (c .loop-test .left) (c .before .loop .inv .2)

@@ -42,7 +42,7 @@ same-length-3 : tie.Need-same-length-3
 same-length-3 c =
     let at-enter2 = c .before .before .before in
     let start = at-enter2 .before .before .before .before .before .before .before .before .before .before in
-    length-set {A = ℕ} (at-enter2 .enter2 .last .1 .1 .0) 10000 2 ∙ (at-enter2 .enter2 .ensures .1) ∙ sym (open-blank _ (start .pre) .size)
+    length-set {A = ℕ} (at-enter2 .enter2 .last .1 .1 .0) 10000 _ ∙ (at-enter2 .enter2 .ensures .1) ∙ sym (open-blank _ (start .pre) .size)
 
 returns-3 : tie.Need-returns-3
 returns-3 c =

@@ -1,7 +1,7 @@
 -- The returns of `text_at`: no such row, and the text that ends before its trailing spaces.
 -- Assumes nothing.
 use native.Mathlib.Omega.{arith}
-use Rattle.texts.proofs.TextLaws.{row-below, row-above, text-none, text-handed, text-room}
+use Rattle.texts.proofs.TextLaws.{row-below, row-above, text-none, text-cut, text-room}
 use Rattle.texts.proofs.HandedLaws.{at-none, at-text}
 use borrow.Author.Needs.{needs}
 use Rattle.texts.proofs.text_at.Statement.{statement}
@@ -65,7 +65,7 @@ returns-3 c =
     let low = c .before .before .before .before .if1 .left in
     let high = c .before .before .before .if2 .left in
     record {
-      bytes = text-handed (a .t .now) (a .n) low high (c .before .length-of .ensures);
+      bytes = text-cut (a .t .now) (a .n) low high (c .before .length-of .ensures);
       address = at-text (a .t) (a .n) low high;
     }
 
