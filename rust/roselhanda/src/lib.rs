@@ -114,8 +114,8 @@ pub fn field(record: &[u8], n: usize) -> &[u8] {
 /// The answers are those that [`book_file`] gave for the report, or that [`Answer::from_bytes`] made
 /// of stored ones; only their codes are read. A list of texts is any number of rows of
 /// [`TEXT_ROW_SIZE`] bytes: a code of four digits, and its text with spaces behind it, of bytes from
-/// 0x20 to 0x7E other than the apostrophe. A text is taken from the member's own list where that
-/// holds the code, else from ours. The file is dated by `date` and `time`, `YYYYMMDD` and `HHMM`.
+/// 0x20 to 0x7E other than the apostrophe. Our text stands for the codes that the member's list
+/// lacks. The file is dated by `date` and `time`, `YYYYMMDD` and `HHMM`.
 ///
 /// It may be longer than a report may be; a buffer of one's own is for [`raw::error_file`].
 ///
