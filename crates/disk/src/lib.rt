@@ -3,7 +3,6 @@ ghost use mathlib.Core.Bool.{_&&_};
 ghost use mathlib.Core.Path.{_≡_};
 ghost use Rattle.io.specs.Counts.{Counts};
 use libc::STDERR_FILENO;
-use libc::STDOUT_FILENO;
 
 // How many bytes of the buffer a file filled, and whether all of it could be read.
 pub struct Loaded {
@@ -145,11 +144,4 @@ pub fn save_or_complain<'a>(
         os::unlink(temporary);
     }
     saved
-}
-
-// Prints a text, and says so where it cannot be printed.
-pub fn print(text: &[u8]) {
-    if !io::write_all(STDOUT_FILENO, text) {
-        os::fail(b"standard output");
-    }
 }

@@ -4,6 +4,7 @@ ghost use Rattle.io.specs.Counts.{Counts};
 use disk::Loaded;
 use error_file::Wrote;
 use libc::STDERR_FILENO;
+use libc::STDOUT_FILENO;
 
 // Room for a report, for the answers to 1,024 records, and for 10,000 rows of texts, each with a byte more, so that what is too long is refused, and
 // never cut.
@@ -36,6 +37,13 @@ fn save(file: &[u8]) -> bool {
     saved.named
 }
 
+// Prints a text, and says so where it cannot be printed.
+fn print(text: &[u8]) {
+    if !io::write_all(STDOUT_FILENO, text) {
+        os::fail(b"standard output");
+    }
+}
+
 // Writes the file and saves it. It is saved before a line claims that it was written.
 fn run<'a>(
     report: &'a [u8],
@@ -50,12 +58,12 @@ fn run<'a>(
     match error_file::write(report, answers, member, ours, date, time, &mut file) {
         Wrote::Refused(n) => {
             let end = results::refused(&mut page, n);
-            disk::print(text::front(&page, end));
+            print(text::front(&page, end));
         }
         Wrote::Length(n) => {
             if save(text::front(&file, n)) {
                 let end = results::written(&mut page, n as u64);
-                disk::print(text::front(&page, end));
+                print(text::front(&page, end));
             }
         }
     }

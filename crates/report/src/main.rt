@@ -4,6 +4,7 @@ ghost use Rattle.io.specs.Counts.{Counts};
 use calls::filing::Filed;
 use disk::Loaded;
 use libc::STDERR_FILENO;
+use libc::STDOUT_FILENO;
 
 // Room for a report, for 16 reporters, 512 currencies and a ledger, each with a byte more, so that what is too long is refused, and never cut.
 const REPORT_ROOM: usize = 32769;
@@ -48,6 +49,13 @@ fn save_all<'a>(ledger: &'a [u8], answers: &'a [u8], wanted: bool) -> bool {
     false
 }
 
+// Prints a text, and says so where it cannot be printed.
+fn print(text: &[u8]) {
+    if !io::write_all(STDOUT_FILENO, text) {
+        os::fail(b"standard output");
+    }
+}
+
 // The answers to n records.
 fn first_answers(answers: &[u8], n: usize) -> &[u8] {
     if n <= MOST_RECORDS {
@@ -69,12 +77,12 @@ fn run<'a>(
     match calls::filing::file_call(file, reporters, currencies, ledger, &mut answers) {
         Filed::Refused(n) => {
             let end = results::refused(&mut page, n);
-            disk::print(text::front(&page, end));
+            print(text::front(&page, end));
         }
         Filed::Count(n) => {
             if save_all(ledger, first_answers(&answers, n), wanted) {
                 let end = results::accepted(&mut page, &answers, n);
-                disk::print(text::front(&page, end));
+                print(text::front(&page, end));
             }
         }
     }
