@@ -33,8 +33,8 @@ int main(void) {
     char ours[2 * ROSELHANDA_TEXT_ROW_SIZE + 1], members[ROSELHANDA_TEXT_ROW_SIZE + 1];
     uint64_t reply, records, our_length, members_length, written, i;
 
-    our_length = put_text(ours, 24, "Field 02: no right to use this identification");
-    our_length += put_text(ours + our_length, 161, "Field 16: the original was not found");
+    our_length = put_text(ours, 24, "Another member reports for this bank");
+    our_length += put_text(ours + our_length, 161, "Nothing live to cancel");
     members_length = put_text(members, 161, "unknown cancellation, call the back office");
 
     reply = roselhanda_file(LENT(report), LENT(reporters), LENT(currencies), ledger, sizeof ledger,

@@ -135,14 +135,11 @@ fn worked_answers() -> Vec<Answer> {
 #[test]
 fn the_error_file_of_the_worked_report() {
     let ours = texts(&[
-        (
-            24,
-            "Feld 02: Keine Berechtigung zur Nutzung dieser Identifikation",
-        ),
-        (161, "Feld 16: Ursprungssatz wurde nicht gefunden"),
+        (24, "Another member reports for this bank"),
+        (161, "Nothing live to cancel"),
         (282, ""),
     ]);
-    let member = texts(&[(161, "Original not found")]);
+    let member = texts(&[(161, "Ask the back office")]);
     let file = error_file(
         REPORT.as_bytes(),
         &worked_answers(),
@@ -158,9 +155,9 @@ fn the_error_file_of_the_worked_report() {
         [
             "UNB+UNOA:1+ATBWA+MBONE+20130904:0800+W1++BWAMSERR'UNH+BWA+BWERR:0'",
             record(2),
-            "0024-Feld 02: Keine Berechtigung zur Nutzung dieser Identifikation",
+            "0024-Another member reports for this bank",
             record(4),
-            "0161-Original not found",
+            "0161-Ask the back office",
             record(5),
             "0282-",
             "'UNT+3+BWA'UNZ+1+W1'",
