@@ -7,8 +7,7 @@ use roselhanda::{code_of, error_file, Answer, ANSWER_SIZE, TEXT_ROW_SIZE};
 
 use crate::compare::{ErrorCall, Outcome};
 use crate::files::{
-    control_word, damage_later_part, every_change, records, Desk, Parts, DAMAGES, LONGEST_FILE,
-    MOST_RECORDS,
+    control_word, damage_later_part, every_change, Desk, Parts, DAMAGES, LONGEST_FILE, MOST_RECORDS,
 };
 use crate::rng::Rng;
 use crate::tally::Check;
@@ -241,15 +240,7 @@ pub fn booked_reports(check: &mut Check, rng: &mut Rng, count: usize) {
     check.section("error files: of booked reports");
     for case in 0..count {
         let desk = Desk::random(rng);
-        let length = match case % 20 {
-            0 => 250,
-            1 => 60,
-            _ => rng.below(12),
-        };
-        let mut lines = records(rng, &desk.world, &desk.ledger, length);
-        while lines.concat().len() + 2 * lines.len() > 32_000 {
-            lines.pop();
-        }
+        let lines = desk.lines(rng, case);
         let parts = Parts::random(rng, &desk.world, &lines);
         let report = parts.to_bytes();
         let mut answers = vec![0; ANSWER_SIZE * lines.len()];

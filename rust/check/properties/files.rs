@@ -115,7 +115,7 @@ pub fn control_word(rng: &mut Rng) -> Vec<u8> {
 }
 
 /// Records of the banks behind a mailbox, numbers and cancellations included.
-pub fn records(rng: &mut Rng, world: &World, ledger: &[u8], count: usize) -> Vec<Vec<u8>> {
+fn records(rng: &mut Rng, world: &World, ledger: &[u8], count: usize) -> Vec<Vec<u8>> {
     let mut records = Vec::new();
     let mut numbers = Vec::new();
     for _ in 0..count {
@@ -155,6 +155,21 @@ impl Desk {
         }
     }
 
+    /// The records of the report of a case: a few; in one case of twenty 60, and in one as many of
+    /// 250 as a report takes.
+    pub fn lines(&self, rng: &mut Rng, case: usize) -> Vec<Vec<u8>> {
+        let length = match case % 20 {
+            0 => 250,
+            1 => 60,
+            _ => rng.below(12),
+        };
+        let mut lines = records(rng, &self.world, &self.ledger, length);
+        while lines.concat().len() + 2 * lines.len() > 32_000 {
+            lines.pop();
+        }
+        lines
+    }
+
     fn call<'a>(&'a self, file: &'a [u8], room: usize) -> FileCall<'a> {
         FileCall {
             file,
@@ -171,15 +186,7 @@ pub fn valid_files(check: &mut Check, rng: &mut Rng, count: usize) {
     check.section("files: valid, and equal to single calls");
     for case in 0..count {
         let desk = Desk::random(rng);
-        let length = match case % 20 {
-            0 => 250,
-            1 => 60,
-            _ => rng.below(12),
-        };
-        let mut lines = records(rng, &desk.world, &desk.ledger, length);
-        while lines.concat().len() + 2 * lines.len() > 32_000 {
-            lines.pop();
-        }
+        let lines = desk.lines(rng, case);
         let parts = Parts::random(rng, &desk.world, &lines);
         let file = parts.to_bytes();
         let need = ANSWER_SIZE * lines.len();
