@@ -16,8 +16,8 @@ derivativeTests money21 f21 f29 f30 f32 =
     ∷ (same f21 (bytes "XXO") && is f29 "F")
     -- 49 0293 F21 money, XXX or XXZ, F29 filled
     ∷ ((money21 || same f21 (bytes "XXX") || same f21 (bytes "XXZ")) && filled f29)
-    -- 50 0301 F21 XXK, F30 not N10,3
-    ∷ (same f21 (bytes "XXK") && not (isDecimal 10 3 f30))
+    -- 50 0301 F21 XXK, F30 not N10,6 (document 02, Item 2)
+    ∷ (same f21 (bytes "XXK") && not (isDecimal 10 6 f30))
     -- 51 0321 F21 XXO, or XXK with F29 C or P: F32 not N10,6
     ∷ ((same f21 (bytes "XXO") || same f21 (bytes "XXK") && oneOf f29 "CP") && not (isDecimal 10 6 f32))
     ∷ []

@@ -96,7 +96,7 @@ pub fn judge_derivative<'a>(
         (xxk | xxo) & !((k == b'C') | (k == b'P') | (k == b'F')), // 47 0290
         xxo & (k == b'F'), // 48 0292
         (money21 | xxx | xxz) & !(f29.len() == 0), // 49 0293
-        xxk & !is_decimal(f30, 10, 3), // 50 0301
+        xxk & !is_decimal(f30, 10, 6), // 50 0301
         (xxo | xxk & ((k == b'C') | (k == b'P'))) & !is_decimal(f32, 10, 6), // 51 0321
     ]
 }

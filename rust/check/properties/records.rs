@@ -152,7 +152,7 @@ pub fn valid(rng: &mut Rng, setting: &Setting) -> Record {
         match special.as_slice() {
             b"XXK" => {
                 record.set(29, one_of(rng, &[b"C", b"P", b"F"]));
-                record.set(30, decimal(rng, 10, 3));
+                record.set(30, decimal(rng, 10, 6));
             }
             b"XXO" => record.set(29, one_of(rng, &[b"C", b"P"])),
             _ => {}
@@ -411,8 +411,7 @@ fn value(rng: &mut Rng, setting: &Setting, record: &Record, n: usize) -> Vec<u8>
         25 => near_decimal(rng, 7, 4),
         28 => one_of(rng, &[b"E", b"K", b"E", b"K", b"e", b"EK", b"D", b" "]),
         29 => one_of(rng, &[b"C", b"P", b"F", b"c", b"CP", b"X", b" "]),
-        30 => near_decimal(rng, 10, 3),
-        32 => near_decimal(rng, 10, 6),
+        30 | 32 => near_decimal(rng, 10, 6),
         33 => match rng.below(8) {
             0 => [b"S".to_vec(), isin(rng)].concat(),
             1 => [b"S".to_vec(), isin_form(rng)].concat(),

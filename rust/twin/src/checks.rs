@@ -208,7 +208,7 @@ pub fn check_content(fields: &Fields, reporter: Reporter, currencies: Currencies
         49,
         (money || f21 == b"XXX" || is_certificate) && !f29.is_empty(),
     );
-    fail_if(50, is_derivative && !is_decimal(f30, 10, 3));
+    fail_if(50, is_derivative && !is_decimal(f30, 10, 6));
     fail_if(
         51,
         (is_warrant || is_derivative && matches!(f29, b"C" | b"P")) && !is_decimal(f32, 10, 6),

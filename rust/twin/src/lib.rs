@@ -1,5 +1,4 @@
-//! The rules of document 01, and the error file of document 02, in plain safe Rust, written from
-//! the papers alone.
+//! The rules of documents 01 and 02 in plain safe Rust, written from the papers alone.
 //!
 //! It shares no code with the proved archive: tests compare the two byte for
 //! byte, and the benchmark takes this crate as its yardstick.
