@@ -1,8 +1,9 @@
--- Worked inputs of document 01, through the calls: R1 and R5 called singly on the all-zero ledger, and files of the bodies of one and of two CR LF.
+-- Worked inputs of document 01, through the calls: R1 and R5 called singly on the all-zero ledger, a future of document 02, Item 2, likewise, and files
+-- of the bodies of one and of two CR LF.
 -- Assumes nothing.
-use Prim.Native.Nat.{ℕ, _-_, _≤_}
+use Prim.Native.Nat.{ℕ, _≤_}
 use native.Mathlib.Omega.{arith}
-use mathlib.Core.Bool.{true}
+use mathlib.Core.Bool.{Bool, true}
 use mathlib.Core.List.{List, [], _∷_, _++_, append-nil, map, head-eq-of-cons-eq, tail-eq-of-cons-eq}
 use mathlib.Core.Path.{_≡_, refl, ap, sym, _∙_}
 use borrow.Author.Tests.{le-leb, leb-true}
@@ -30,7 +31,6 @@ use Rattle.fields.specs.Worked.{workedRecord, r1, r5}
 use Rattle.tables.specs.Reporters.{mailboxOf, mailboxForm, reporterForm, reportersDiffer, reporterOk, reportersOk}
 use Rattle.tables.specs.Reporters.{hasCode, hasAddress, hasMailbox, rowByCode, rowByAddress}
 use Rattle.tables.specs.Currencies.{isSpecial, isMoney, currencyOk, currenciesOk}
-use Rattle.ledger.specs.Row.{rowSize}
 use Rattle.tables.specs.Tables.{tablesFlaw}
 use Rattle.tables.proofs.FlawLaws.{tables-pass}
 use Rattle.ledger.specs.Sound.{compartmentSize, ledgerSize, soundLedger, ledgerFlaw}
@@ -59,8 +59,8 @@ use Rattle.calls.specs.Call.{Call, called, recordForm, refusalOf, checke
 use Rattle.calls.specs.Rules.{rules}
 use Rattle.calls.specs.Demand3.{CallsIsolated}
 use Rattle.calls.specs.Filing.{reportCalls, openedReading, readingOf, answersIn, fileOutcome, carriedOut, fileOf}
-use Rattle.calls.specs.Worked.{workedReporters, workedCurrencies, workedTables, workedSender, emptyLedger, r1Answer, r5Answer, r1Row, blankAnswer}
-use Rattle.calls.specs.Worked.{workedFile}
+use Rattle.calls.specs.Worked.{workedReporters, workedCurrencies, workedTables, workedSender, emptyLedger}
+use Rattle.calls.specs.Worked.{bookedAnswer, r1Answer, r5Answer, future, futureAnswer, r1Row, r1Compartment, blankAnswer, workedFile}
 use Rattle.calls.proofs.CallLaws.{call-passes, accepted-call}
 use Rattle.calls.proofs.Demand3.{demand3}
 use Rattle.calls.proofs.ReadingLaws.{lent-none, reading-on}
@@ -84,8 +84,8 @@ empty-sound = empty-ledger ledgerSize refl
 pub demand3-met : (calls : List Call) → CallsIsolated workedTables calls emptyLedger
 demand3-met calls = demand3 workedTables calls emptyLedger empty-sound
 
--- of two lists of two
-second : {A : Type 0} {a b c d : A} → a ∷ b ∷ [] ≡ c ∷ d ∷ [] → b ≡ d
+-- of two lists, their second entries
+second : {A : Type 0} {a b c d : A} {s t : List A} → a ∷ b ∷ s ≡ c ∷ d ∷ t → b ≡ d
 second e = head-eq-of-cons-eq (tail-eq-of-cons-eq e)
 
 -- a record called singly by the worked sender on the all-zero ledger
@@ -107,56 +107,52 @@ not-refused s form =
     sym (accepted-call workedTables call (ledgerFlaw emptyLedger) worked-tables (flaw-none emptyLedger empty-sound)
     (call-passes call refl form))
 
--- one that is in form and passes the sender check for row 0 is judged and booked on a compartment of zeros
-on-zeros : (s : List ℕ) → recordForm s ≡ true → rowOf (checkedOf workedTables (called workedSender s)) ≡ 0 → calledAlone s
-    ≡ record {
-      reply = accepted (answerBytes (stepAnswer workedTables 0 s zeros));
-      store = put compartmentSize 0 (stepCompartment workedTables 0 s zeros) emptyLedger;
-    }
-on-zeros s form row =
-    single-step (rules workedTables) (called workedSender s) emptyLedger 0 (not-refused s form) row (omega arith)
+-- what is computed of a record on a compartment of zeros: whether it is in form, the row that it passes for, its answer, the compartment after it
+abbrev computed : List ℕ → Bool × ℕ × List ℕ × List ℕ
+computed s = (
+  recordForm s,
+  rowOf (checkedOf workedTables (called workedSender s)),
+  answerBytes (stepAnswer workedTables 0 s zeros),
+  stepCompartment workedTables 0 s zeros,
+)
+
+-- one that is in form and passes for row 0 is answered so, and leaves that compartment
+on-zeros : (s : List ℕ) {answer c : List ℕ} → computed s ≡ (true, 0, answer, c) → calledAlone s
+    ≡ record { reply = accepted answer; store = put compartmentSize 0 c emptyLedger }
+on-zeros s e =
+    let row = ap (λ p. p .1) e in
+    single-step (rules workedTables) (called workedSender s) emptyLedger 0 (not-refused s (ap (λ p. p .0) e)) row (omega arith)
     ∙ (λ i. record {
       reply = accepted (answerBytes (stepAnswer workedTables (row i) s (zeros-part i)));
       store = put compartmentSize 0 (stepCompartment workedTables (row i) s (zeros-part i)) emptyLedger;
     })
+    ∙ (λ i. record { reply = accepted (e i .2); store = put compartmentSize 0 (e i .3) emptyLedger })
 
--- what the step computes of R1 and R5 on a compartment of zeros
-passed-rows : map (λ s. rowOf (checkedOf workedTables (called workedSender s))) (r1 ∷ r5 ∷ []) ≡ 0 ∷ 0 ∷ []
-unfolding workedRecord workedReporters checkedOf senderCheck senderTests reporterTests reporterRow rowByCode rowByAddress hasCode hasMailbox mailboxOf isWhole
-    semicolonsFrom fieldStart fieldEnd fieldPlace fieldOf letter same positionOf part least added addedFrom holds isEmpty
-passed-rows = refl
-
-in-form : map recordForm (r1 ∷ r5 ∷ []) ≡ true ∷ true ∷ []
-unfolding workedRecord recordForm all
-in-form = refl
-
-abbrev stepped : List ℕ → List ℕ × List ℕ
-stepped s = (answerBytes (stepAnswer workedTables 0 s zeros), stepCompartment workedTables 0 s zeros)
-
-steps : map stepped (r1 ∷ r5 ∷ []) ≡ (r1Answer, r1Row ++ replicate (compartmentSize - rowSize) 0) ∷ (r5Answer, zeros) ∷ []
-unfolding workedRecord workedReporters workedCurrencies r1Answer r5Answer r1Row least part put all same positionOf decimalOf decimalAt wholeOnly wholeAndPart
-    digitsUpTo digitsValueAfter digitsExactly realDate realDay daysIn realSecond bankCode swiftForm completed sameAddress nameUpTo isinForm letterValue
-    digitsOf digits weighted digitSum checkDigitRight holds isEmpty added addedFrom codes codeAt isWhole semicolonsFrom fieldStart fieldEnd fieldPlace fieldOf
-    letter hasCode hasAddress isSpecial isMoney isAmong lacksForm sameParty clientTests venueForm tradeTests instrumentTests termsTests namesOwn capacityTests
-    derivativeTests markTests asksUnderlying isMissing isTheme presentTests underlyingTests clientGroup tradeGroup instrumentGroup termsGroup
-    capacityGroup derivativeGroup underlyingGroup marksGroup recordTests recordFailures padded newRow entered canBook booked lowBytes numberAt littleEndian
-    freeRow rowByNumber liveRow namedRow bookingTests bookingOf failuresFrom7 statusAt stepFailures answerOf stepAnswer bookedAs stepCompartment answerBytes
-    trailingZeros
+steps : map computed (r1 ∷ r5 ∷ future ∷ [])
+    ≡ (true, 0, r1Answer, r1Compartment) ∷ (true, 0, r5Answer, zeros) ∷ (true, 0, futureAnswer, r1Compartment) ∷ []
+unfolding workedRecord workedReporters workedCurrencies bookedAnswer r5Answer future r1Row recordForm checkedOf senderCheck senderTests reporterTests
+    reporterRow rowByCode rowByAddress hasMailbox mailboxOf least part put all same positionOf decimalOf decimalAt wholeOnly wholeAndPart digitsUpTo
+    digitsValueAfter digitsExactly realDate realDay daysIn realSecond bankCode swiftForm completed sameAddress nameUpTo isinForm letterValue digitsOf digits
+    weighted digitSum checkDigitRight holds isEmpty added addedFrom codes codeAt isWhole semicolonsFrom fieldStart fieldEnd fieldPlace fieldOf letter hasCode
+    hasAddress isSpecial isMoney isAmong lacksForm sameParty clientTests venueForm tradeTests instrumentTests termsTests namesOwn capacityTests derivativeTests
+    markTests asksUnderlying isMissing isTheme presentTests underlyingTests clientGroup tradeGroup instrumentGroup termsGroup capacityGroup derivativeGroup
+    underlyingGroup marksGroup recordTests recordFailures padded newRow entered canBook booked lowBytes numberAt littleEndian freeRow rowByNumber liveRow
+    namedRow bookingTests bookingOf failuresFrom7 statusAt stepFailures answerOf stepAnswer bookedAs stepCompartment answerBytes trailingZeros
 steps = refl
 
--- R1 is booked in row 0 of compartment 0, and the rest of the ledger stays; R5 is answered with its set, and nothing is booked
+-- R1 is booked in row 0 of compartment 0, and the rest of the ledger stays; R5 is answered with its set, and nothing is booked; a future with 0,125000 as
+-- contract size is booked as R1 is
 pub worked :
-    map (λ r. single (rules workedTables) (called workedSender r) emptyLedger) (r1 ∷ r5 ∷ [])
-    ≡ record { reply = accepted r1Answer; store = put compartmentSize 0 (r1Row ++ replicate (compartmentSize - rowSize) 0) emptyLedger }
+    map (λ r. single (rules workedTables) (called workedSender r) emptyLedger) (r1 ∷ r5 ∷ future ∷ [])
+    ≡ record { reply = accepted r1Answer; store = put compartmentSize 0 r1Compartment emptyLedger }
     ∷ record { reply = accepted r5Answer; store = emptyLedger }
+    ∷ record { reply = accepted futureAnswer; store = put compartmentSize 0 r1Compartment emptyLedger }
     ∷ []
-worked =
-    (λ i. on-zeros r1 (head-eq-of-cons-eq in-form) (head-eq-of-cons-eq passed-rows) i
-    ∷ on-zeros r5 (second in-form) (second passed-rows) i ∷ [])
-    ∙ (λ i. (let step = head-eq-of-cons-eq steps i in record { reply = accepted (step .0); store = put compartmentSize 0 (step .1) emptyLedger })
-    ∷ (let step = second steps i in record { reply = accepted (step .0); store = put compartmentSize 0 (step .1) emptyLedger }) ∷ [])
-    ∙ (λ i. record { reply = accepted r1Answer; store = put compartmentSize 0 (r1Row ++ replicate (compartmentSize - rowSize) 0) emptyLedger }
-    ∷ record { reply = accepted r5Answer; store = kept i } ∷ [])
+worked = λ i.
+    on-zeros r1 (head-eq-of-cons-eq steps) i
+    ∷ (on-zeros r5 (second steps) ∙ (λ j. record { reply = accepted r5Answer; store = kept j })) i
+    ∷ on-zeros future (second (tail-eq-of-cons-eq steps)) i
+    ∷ []
   where
     kept : put compartmentSize 0 zeros emptyLedger ≡ emptyLedger
     kept = ap (λ (c : List ℕ). put compartmentSize 0 c emptyLedger) (sym zeros-part) ∙ put-own compartmentSize 0 emptyLedger
