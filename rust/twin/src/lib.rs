@@ -1,4 +1,5 @@
-//! The rules of documents 01 and 02 in plain safe Rust, written from the papers alone.
+//! The rules of document 01, and what has been built of document 02, in plain safe Rust, written
+//! from the papers alone.
 //!
 //! It shares no code with the proved archive: tests compare the two byte for
 //! byte, and the benchmark takes this crate as its yardstick.
