@@ -1,55 +1,178 @@
--- Laws of the sum over the digits of an ISIN: what a walk over its bytes from the last to the first uses.
+-- Laws of the sum over an ISIN: worked out letter by letter it is the sum over the digits, whatever the text and its length; what a value adds, up to a
+-- multiple of 10; and what a walk over the letters keeps, from the last to the first.
 -- Assumes nothing.
-use Prim.Native.Nat.{ℕ, zero, suc, _+_, _-_, _/_, _%_, _<_, _≤_}
-use mathlib.Core.Bool.{Bool, true, false, not, cond, Bool·not-not}
+use Prim.Native.Nat.{ℕ, zero, suc, _+_, _-_, _*_, _/_, _%_, _<_, _≤_}
+use mathlib.Core.Bool.{Bool, true, false, not, cond}
 use mathlib.Core.List.{List, [], _∷_, _++_, reverse, reverse-append, append-nil, append-assoc}
 use mathlib.Core.Path.{_≡_, refl, ap, sym, _∙_}
 use native.Mathlib.Nat.{not-suc-le-zero}
 use native.Mathlib.Numerals.{sub-one}
 use native.Mathlib.Omega.{arith}
+use borrow.Author.Tests.{leb-true}
+use lib.Dec.{leb, eqb}
 use lib.ListN.{length, getD, take}
-use lib.Seq.{take-suc}
-use Rattle.text.specs.Class.{isDigit}
-use Rattle.identifier.specs.Isin.{letterValue, digitsOf, digits, doubled, weighted, digitSum}
+use lib.Seq.{take-suc, take-length}
+use Rattle.frame.proofs.BoolLaws.{and-left, and-right}
+use Rattle.text.specs.Class.{isDigit, isCapital, isCapitalOrDigit}
+use Rattle.text.specs.Bytes.{all}
+use Rattle.text.proofs.ByteLaws.{digit-high}
+use Rattle.identifier.specs.Isin.{letterValue, digitsOf, digits, doubled, weighted, digitSum, valueWeight, turned, lettersFrom, letterSum, checkDigitRight}
 
--- a byte is one digit, or two of which the last comes first in the sum
-module _ (f : Bool) (b : ℕ) {v : ℕ} (e : v ≡ letterValue b) where
-  pub weighted-digit : {r : Bool} {m : ℕ} → r ≡ isDigit b → r ≡ true → m ≡ cond f (doubled v) v → m ≡ weighted f (reverse (digitsOf b))
-  unfolding digitsOf weighted
-  weighted-digit q t p = rw (← q, t, ← e) (omega (arith, p))
+-- a digit is worth less than 10, a capital 55 less than its byte
+digit-value : (b : ℕ) → isDigit b ≡ true → letterValue b < 10
+unfolding letterValue
+digit-value b e = rw e (omega (arith, digit-high b e))
 
-  pub weighted-letter : {r : Bool} {m n : ℕ} → r ≡ isDigit b → r ≡ false → m ≡ cond f (doubled (v % 10)) (v % 10)
-      → n ≡ cond (not f) (doubled (v / 10)) (v / 10) → m + n ≡ weighted f (reverse (digitsOf b))
-  unfolding digitsOf weighted
-  weighted-letter q t p k = rw (← q, t, ← e) (omega (arith, p, k))
+pub capital-low : (b : ℕ) → isCapital b ≡ true → 65 ≤ b
+capital-low b e = leb-true _ _ (and-left _ _ e)
 
--- one digit turns the flag, two leave it
-weighted-byte : (f : Bool) (b : ℕ) (ds : List ℕ)
-    → weighted f (reverse (digitsOf b) ++ ds) ≡ weighted f (reverse (digitsOf b)) + weighted (cond (isDigit b) (not f) f) ds
-unfolding digitsOf weighted
-weighted-byte f b ds = of (isDigit b) refl
+pub capital-high : (b : ℕ) → isCapital b ≡ true → b ≤ 90
+capital-high b e = leb-true _ _ (and-right (leb 65 b) _ e)
+
+pub capital-value : (b : ℕ) → isCapital b ≡ true → letterValue b ≡ b - 55
+unfolding letterValue
+capital-value b e = of (isDigit b) refl
   where
-    of : (d : Bool) → isDigit b ≡ d
-        → weighted f (reverse (digitsOf b) ++ ds) ≡ weighted f (reverse (digitsOf b)) + weighted (cond (isDigit b) (not f) f) ds
-    of true e = rw e (omega arith)
-    of false e = rw (e, Bool·not-not) (omega arith)
+    of : (d : Bool) → isDigit b ≡ d → letterValue b ≡ b - 55
+    of true q = omega (arith, capital-low b e, digit-high b q)
+    of false q = rw q (omega (arith, capital-low b e))
 
-digits-last : (s : List ℕ) (b : ℕ) → digits (s ++ (b ∷ [])) ≡ digits s ++ digitsOf b
-unfolding digits
-digits-last [] b = append-nil (digitsOf b)
-digits-last (x ∷ s) b = ap (λ (l : List ℕ). digitsOf x ++ l) (digits-last s b) ∙ sym (append-assoc (digitsOf x) (digits s) (digitsOf b))
+-- a value of one digit adds this digit, doubled or not
+one-digit : (f : Bool) (v : ℕ) → v < 10 → valueWeight f v ≡ cond f (doubled v) v
+unfolding valueWeight
+one-digit f v h =
+    let last : v % 10 ≡ v = omega (arith, h) in
+    let before : v / 10 ≡ 0 = omega (arith, h) in
+    rw (last, before) (of f)
+  where
+    of : (g : Bool) → cond g (doubled v + 0) (v + doubled 0) ≡ cond g (doubled v) v
+    of true = omega arith
+    of false = omega arith
 
--- what the walk keeps, n being its total and i the count of bytes left: the sum over these, added to n, is the sum over all
-pub sum-more : (s : List ℕ) (f : Bool) (i n : ℕ) {m : ℕ} {g : Bool} → digitSum s ≡ n + weighted f (reverse (digits (take i s)))
-    → 0 < i → i ≤ length s → m ≡ weighted f (reverse (digitsOf (getD s (i - 1) 0))) → g ≡ cond (isDigit (getD s (i - 1) 0)) (not f) f
-    → digitSum s ≡ (n + m) + weighted g (reverse (digits (take (i - 1) s)))
-sum-more s f zero n e h l p q = absurd (not-suc-le-zero h)
-sum-more s f (suc j) n e h l p q =
-    let byte = rw sub-one at p in
+-- one of two digits adds both of them, one doubled
+two-digits : (f : Bool) (v : ℕ) (ds : List ℕ) → weighted f (v % 10 ∷ v / 10 ∷ ds) ≡ valueWeight f v + weighted f ds
+unfolding weighted valueWeight
+two-digits true v ds = omega arith
+two-digits false v ds = omega arith
+
+-- the digits of a letter, the last of them first, add what its value adds, and turn the flag as it does
+weighted-letter : (f : Bool) (b : ℕ) (ds : List ℕ)
+    → weighted f (reverse (digitsOf b) ++ ds) ≡ valueWeight f (letterValue b) + weighted (turned f b) ds
+unfolding digitsOf weighted turned
+weighted-letter f b ds = of (isDigit b) refl
+  where
+    of : (d : Bool) → isDigit b ≡ d → weighted f (reverse (digitsOf b) ++ ds) ≡ valueWeight f (letterValue b) + weighted (turned f b) ds
+    of true e = rw (e, one-digit f _ (digit-value b e)) refl
+    of false e = rw e (two-digits f (letterValue b) ds)
+
+-- the digits of letters that stand from right to left
+unfoldable digitsBack : List ℕ → List ℕ
+digitsBack [] = []
+digitsBack (b ∷ bs) = reverse (digitsOf b) ++ digitsBack bs
+
+back-append : (s t : List ℕ) → digitsBack (s ++ t) ≡ digitsBack s ++ digitsBack t
+unfolding digitsBack
+back-append [] t = refl
+back-append (b ∷ s) t =
+    ap (λ (l : List ℕ). reverse (digitsOf b) ++ l) (back-append s t) ∙ sym (append-assoc (reverse (digitsOf b)) (digitsBack s) (digitsBack t))
+
+back-reverse : (s : List ℕ) → digitsBack (reverse s) ≡ reverse (digits s)
+unfolding digitsBack digits
+back-reverse [] = refl
+back-reverse (b ∷ s) =
+    ap digitsBack (reverse-append (b ∷ []) s)
+    ∙ back-append (reverse s) (b ∷ [])
+    ∙ rw (back-reverse s, append-nil (reverse (digitsOf b))) (sym (reverse-append (digitsOf b) (digits s)))
+
+letters-weighted : (f : Bool) (s : List ℕ) → lettersFrom f s ≡ weighted f (digitsBack s)
+unfolding lettersFrom weighted digitsBack
+letters-weighted f [] = refl
+letters-weighted f (b ∷ s) =
+    ap (λ (n : ℕ). valueWeight f (letterValue b) + n) (letters-weighted (turned f b) s) ∙ sym (weighted-letter f b (digitsBack s))
+
+-- The sum letter by letter is document 01's sum over the digits, for every text
+pub letter-sum : (s : List ℕ) → letterSum s ≡ digitSum s
+unfolding letterSum digitSum
+letter-sum s = letters-weighted true (reverse s) ∙ ap (weighted true) (back-reverse s)
+
+-- and so, as document 02 asks it of Item 3, they agree modulo 10 for capitals and digits of any number
+pub letter-sum-agrees : (s : List ℕ) → all isCapitalOrDigit s ≡ true → letterSum s % 10 ≡ digitSum s % 10
+letter-sum-agrees s h = ap (λ (n : ℕ). n % 10) (letter-sum s)
+
+-- a digit doubled, and its digits added: less than its double by nine for each ten
+doubled-nines : (d : ℕ) → doubled d + 9 * (2 * d / 10) ≡ 2 * d
+doubled-nines d = omega arith
+
+up-to-tens : {m : ℕ} (n k : ℕ) → m ≡ n + 10 * k → m % 10 ≡ n % 10
+up-to-tens n k e = rw e (omega arith)
+
+-- what a value adds, up to a multiple of 10
+pub weight-doubled : (v : ℕ) → (2 * v + (v + 5) / 10) % 10 ≡ valueWeight true v % 10
+unfolding valueWeight
+weight-doubled v = up-to-tens _ (2 * (v / 10) + 2 * (v % 10) / 10) (omega (arith, tens, doubled-nines (v % 10)))
+  where
+    one : 2 * (v % 10) / 10 ≤ 1
+    one = omega arith
+
+    tens : (v + 5) / 10 ≡ v / 10 + 2 * (v % 10) / 10
+    tens = omega (arith, one)
+
+pub weight-single : (v : ℕ) → (v + 2 * (v / 10) + v / 50) % 10 ≡ valueWeight false v % 10
+unfolding valueWeight
+weight-single v = up-to-tens _ (v / 10 + 2 * (v / 10) / 10) (omega (arith, fifties, doubled-nines (v / 10)))
+  where
+    below : v / 10 ≤ 5 * (2 * (v / 10) / 10) + 4
+    below = omega arith
+
+    fifties : v / 50 ≡ 2 * (v / 10) / 10
+    fifties = omega (arith, below)
+
+pub weight-capital : (b : ℕ) → 65 ≤ b → 2 * (b - 55) + b / 10 - 5 ≡ 2 * (b - 55) + (b - 55 + 5) / 10
+weight-capital b h = omega (arith, h)
+
+-- a digit turns the flag, another byte leaves it
+pub turned-digit : (f : Bool) (b : ℕ) {r : Bool} → r ≡ isDigit b → r ≡ true → not f ≡ turned f b
+unfolding turned
+turned-digit f b e t = rw (← e, t) refl
+
+pub turned-other : (f : Bool) (b : ℕ) {r : Bool} → r ≡ isDigit b → r ≡ false → f ≡ turned f b
+unfolding turned
+turned-other f b e t = rw (← e, t) refl
+
+-- what the walk keeps, n being its total and i the count of letters left: the sum over these, added to n, has the last digit of the whole
+last-of : (n m : ℕ) → (n % 10 + m) % 10 ≡ (n + m) % 10
+last-of n m = omega arith
+
+last-three : (n t : ℕ) → (n % 1000 + t) % 10 ≡ (n + t) % 10
+last-three n t = omega arith
+
+kept : (n m w t : ℕ) → m % 10 ≡ w % 10 → (n + (w + t)) % 10 ≡ ((n + m) % 1000 + t) % 10
+kept n m w t e =
+    let one : (n + (w + t)) % 10 ≡ (w % 10 + (n + t)) % 10 = omega arith in
+    let two : (m % 10 + (n + t)) % 10 ≡ ((n + m) + t) % 10 = omega arith in
+    one ∙ rw (← e) two ∙ sym (last-three (n + m) t)
+
+pub sum-start : (s : List ℕ) → letterSum s % 10 ≡ (0 + lettersFrom true (reverse (take (length s) s))) % 10
+unfolding letterSum
+sum-start s = rw take-length (omega arith)
+
+pub sum-more : (s : List ℕ) (f : Bool) (i n m : ℕ) {r : ℕ} {g : Bool} → letterSum s % 10 ≡ (n + lettersFrom f (reverse (take i s))) % 10
+    → 0 < i → i ≤ length s → m % 10 ≡ valueWeight f (letterValue (getD s (i - 1) 0)) % 10 → r ≡ (n + m) % 1000 → g ≡ turned f (getD s (i - 1) 0)
+    → letterSum s % 10 ≡ (r + lettersFrom g (reverse (take (i - 1) s))) % 10
+unfolding lettersFrom
+sum-more s f zero n m e h l p k q = absurd (not-suc-le-zero h)
+sum-more s f (suc j) n m e h l p k q =
+    let weight = rw sub-one at p in
     let flag = rw sub-one at q in
-    e ∙ rw (sub-one, take-suc s j 0 l, digits-last, reverse-append, weighted-byte, ← byte, ← flag) (omega arith)
+    e ∙ rw (sub-one, take-suc s j 0 l, reverse-append, k, flag) (kept n m _ _ weight)
 
-pub sum-end : (s : List ℕ) (f : Bool) (i n : ℕ) → digitSum s ≡ n + weighted f (reverse (digits (take i s))) → i ≤ 0 → n ≡ digitSum s
-unfolding digits weighted
+pub sum-end : (s : List ℕ) (f : Bool) (i n : ℕ) → letterSum s % 10 ≡ (n + lettersFrom f (reverse (take i s))) % 10 → i ≤ 0 → n % 10 ≡ letterSum s % 10
+unfolding lettersFrom
 sum-end s f zero n e h = omega (arith, e)
 sum-end s f (suc i) n e h = absurd (not-suc-le-zero h)
+
+-- the check digit by the last digit of the sum
+pub check-digit : (s : List ℕ) {n v b : ℕ} {t : List ℕ} → n ≡ letterSum t % 10 → t ≡ take 11 s → v ≡ letterValue b → b ≡ getD s 11 0
+    → eqb ((n + v) % 10) 0 ≡ checkDigitRight s
+unfolding checkDigitRight
+check-digit s p q r e = rw (p, q, r, e, last-of, letter-sum) refl

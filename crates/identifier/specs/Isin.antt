@@ -38,6 +38,23 @@ weighted double (d ∷ ds) = cond double (doubled d) d + weighted (not double) d
 unfoldable pub digitSum : List ℕ → ℕ
 digitSum s = weighted true (reverse (digits s))
 
+-- Document 02, Item 3, that sum letter by letter, with no list of digits. What a value of one or two digits adds: the last of them doubled where the
+-- flag says so, the one before it where it does not
+unfoldable pub valueWeight : Bool → ℕ → ℕ
+valueWeight double v = cond double (doubled (v % 10) + v / 10) (v % 10 + doubled (v / 10))
+
+-- whether the digit to the left is doubled: the one of a digit turns the flag, the two of a letter leave it
+unfoldable pub turned : Bool → ℕ → Bool
+turned double b = cond (isDigit b) (not double) double
+
+-- the sum over letters of which the first is the last of the text, and so over the text from its last letter leftwards
+unfoldable pub lettersFrom : Bool → List ℕ → ℕ
+lettersFrom double [] = 0
+lettersFrom double (b ∷ bs) = valueWeight double (letterValue b) + lettersFrom (turned double b) bs
+
+unfoldable pub letterSum : List ℕ → ℕ
+letterSum s = lettersFrom true (reverse s)
+
 -- "check digit" is right: the sum with it is a multiple of 10. It is the twelfth byte
 unfoldable pub checkDigitRight : List ℕ → Bool
 checkDigitRight s = eqb ((digitSum (take 11 s) + letterValue (getD s 11 0)) % 10) 0

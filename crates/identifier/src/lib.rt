@@ -1,15 +1,13 @@
 // Bank codes, SWIFT addresses, names and ISINs.
-ghost use Prim.Native.Nat.{_+_, _-_, _≤_};
-ghost use mathlib.Core.Bool.{not, cond};
-ghost use mathlib.Core.List.{_++_, reverse};
+ghost use Prim.Native.Nat.{_-_, _%_, _<_, _≤_};
+ghost use mathlib.Core.List.{_++_};
 ghost use mathlib.Core.Path.{_≡_};
 ghost use lib.ListN.{length, getD};
-ghost use Rattle.text.specs.Class.{isDigit};
 ghost use Rattle.text.specs.Bytes.{same};
 ghost use Rattle.text.specs.Text.{bytes};
 ghost use Rattle.identifier.specs.Identifier.{bankCode, swiftForm, sameAddress, nameUpTo};
 ghost use Rattle.identifier.specs.Isin.{isinForm, checkDigitRight, validIsin};
-ghost use Rattle.identifier.specs.Isin.{letterValue, digitsOf, doubled, weighted, digitSum};
+ghost use Rattle.identifier.specs.Isin.{letterValue, valueWeight, letterSum};
 use text::Class;
 
 // Whether s is a bank code.
@@ -69,59 +67,62 @@ pub fn is_isin_form(s: &[u8]) -> bool
             & text::all(Class::Digit, text::rest(s, 11)))
 }
 
-// x - y; 0 where y is the greater.
-fn minus(x: u8, y: u8) -> u64
-    ensures { λ r. ⌜ r ≡ x - y ⌝ }
-{
-    if y <= x { (x - y) as u64 } else { 0 }
-}
-
 // The value of a digit or a letter.
 fn value_of(b: u8) -> u64
     ensures { λ r. ⌜ (r ≡ letterValue b) × (r ≤ 255) ⌝ }
 {
     if text::belongs(Class::Digit, b) {
-        minus(b, b'0')
+        return (b - b'0') as u64;
+    }
+    if b < b'A' { 10 } else { (b - b'A') as u64 + 10 }
+}
+
+// What a value adds to the sum, up to a multiple of 10: a doubled digit d then adds 2 * d + d / 5.
+fn weight(double: bool, v: u64) -> u64
+    requires { ⌜ v ≤ 255 ⌝ }
+    ensures { λ r. ⌜ (r % 10 ≡ valueWeight double v % 10) × (r ≤ 600) ⌝ }
+{
+    if double {
+        2 * v + (v + 5) / 10
     } else {
-        minus(b, b'A') + 10
+        v + 2 * (v / 10) + v / 50
     }
 }
 
-// What a digit adds to the sum, doubled or not.
-fn digit_weight(double: bool, d: u64) -> u64
-    requires { ⌜ d ≤ 255 ⌝ }
-    ensures { λ r. ⌜ (r ≡ cond double (doubled d) d) × (r ≤ d + 9) ⌝ }
+// The same for the capital b, whose value is b - 55, in fewer steps.
+fn capital_weight(double: bool, b: u64) -> u64
+    requires { ⌜ (65 ≤ b) × (b ≤ 90) ⌝ }
+    ensures { λ r. ⌜ (r % 10 ≡ valueWeight double (b - 55) % 10) × (r ≤ 600) ⌝ }
 {
-    if double { 2 * d / 10 + 2 * d % 10 } else { d }
-}
-
-// What the digits of a byte add to the sum, the last of them doubled or not.
-fn byte_weight(double: bool, b: u8) -> u64
-    ensures { λ r. ⌜ (r ≡ weighted double (reverse (digitsOf b))) × (r ≤ 300) ⌝ }
-{
-    let v = value_of(b);
-    if text::belongs(Class::Digit, b) {
-        digit_weight(double, v)
+    if double {
+        2 * (b - 55) + b / 10 - 5
     } else {
-        digit_weight(double, v % 10) + digit_weight(!double, v / 10)
+        weight(false, b - 55)
     }
 }
 
-// Whether the digit to the left of a byte's is doubled: one digit turns the flag, two leave it.
-fn doubles_next(double: bool, b: u8) -> bool
-    ensures { λ r. ⌜ r ≡ cond (isDigit b) (not double) double ⌝ }
+// The same for a letter, or any other byte but a digit.
+fn letter_weight(double: bool, b: u8) -> u64
+    ensures { λ r. ⌜ (r % 10 ≡ valueWeight double (letterValue b) % 10) × (r ≤ 600) ⌝ }
 {
-    if text::belongs(Class::Digit, b) {
-        !double
-    } else {
-        double
+    if text::belongs(Class::Capital, b) {
+        return capital_weight(double, b as u64);
     }
+    weight(double, value_of(b))
 }
 
-// The sum over the digits of s, from the last of them leftwards.
-fn digit_sum(s: &[u8]) -> u64
-    requires { ⌜ length (now s) ≤ 11 ⌝ }
-    ensures { λ r. ⌜ (r ≡ digitSum (now (s .entry))) × (r ≤ 3300) ⌝ }
+// The last three digits of a sum.
+fn last_digits(n: u64) -> u64
+    requires { ⌜ n < 2000 ⌝ }
+    ensures { λ r. ⌜ r ≡ n % 1000 ⌝ }
+{
+    if n < 1000 { n } else { n - 1000 }
+}
+
+// The last digit of the sum over s, letter by letter from the last of them leftwards. No digits are stored, and of the sum only the last three are kept,
+// by a subtraction: no length overflows.
+pub fn letter_sum(s: &[u8]) -> u64
+    ensures { λ r. ⌜ r ≡ letterSum (now (s .entry)) % 10 ⌝ }
 {
     let mut double = true;
     let mut total: u64 = 0;
@@ -129,10 +130,14 @@ fn digit_sum(s: &[u8]) -> u64
     while 0 < i {
         i -= 1;
         let b = s[i];
-        total += byte_weight(double, b);
-        double = doubles_next(double, b);
+        if text::belongs(Class::Digit, b) {
+            total = last_digits(total + weight(double, value_of(b)));
+            double = !double;
+        } else {
+            total = last_digits(total + letter_weight(double, b));
+        }
     }
-    total
+    total % 10
 }
 
 // The byte at i; 0 where s ends before it.
@@ -146,7 +151,7 @@ fn byte_at(s: &[u8], i: usize) -> u8
 pub fn is_check_digit_right(s: &[u8]) -> bool
     ensures { λ r. ⌜ r ≡ checkDigitRight (now (s .entry)) ⌝ }
 {
-    (digit_sum(text::front(s, 11)) + value_of(byte_at(s, 11))) % 10 == 0
+    (letter_sum(text::front(s, 11)) + value_of(byte_at(s, 11))) % 10 == 0
 }
 
 // Whether s is a valid ISIN.
