@@ -43,9 +43,12 @@ loop-again c =
     let asked = c .before .before .before .before in
     let tested = asked .before .before in
     let walked = tested .before .loop .inv in
-    let added = rw (c .before .before .value-of .ensures .0) at (c .before .weight .ensures .0) in
-    let more = sum-more _ _ _ _ _ (walked .2) (tested .loop-test .taken) (walked .0) added (c .last-digits .ensures) in
-    (search needs, omega arith, more (turned-digit _ _ (asked .belongs .ensures) (c .before .before .before .if1 .taken)))
+    let added = rw (c .before .before .value-of .ensures .0) at (c .before .weight .ensures .0) in (
+      search needs,
+      omega arith,
+      sum-more _ _ _ _ _ (walked .2) (tested .loop-test .taken) (walked .0) added (c .last-digits .ensures)
+          (turned-digit _ _ (asked .belongs .ensures) (c .before .before .before .if1 .taken)),
+    )
 
 add-last-digits-2 : tie.Need-add-last-digits-2 Inv-loop μ-loop
 add-last-digits-2 c = search needs
@@ -61,9 +64,12 @@ loop-again-2 c =
     let asked = c .before .before .before in
     let tested = asked .before .before in
     let walked = tested .before .loop .inv in
-    let added = c .before .letter-weight .ensures .0 in
-    let more = sum-more _ _ _ _ _ (walked .2) (tested .loop-test .taken) (walked .0) added (c .last-digits2 .ensures) in
-    (search needs, omega arith, more (turned-other _ _ (asked .belongs .ensures) (c .before .before .if1 .left)))
+    let added = c .before .letter-weight .ensures .0 in (
+      search needs,
+      omega arith,
+      sum-more _ _ _ _ _ (walked .2) (tested .loop-test .taken) (walked .0) added (c .last-digits2 .ensures)
+          (turned-other _ _ (asked .belongs .ensures) (c .before .before .if1 .left)),
+    )
 
 returns : tie.Need-returns Inv-loop μ-loop
 returns c = sum-end _ _ _ _ (c .before .loop .inv .2) (c .loop-test .left)
