@@ -1,6 +1,6 @@
 -- Laws of the exported calls: their replies as numbers, and what they leave.
 -- Assumes nothing.
-use Prim.Native.Nat.{ℕ, _≤_, _<_}
+use Prim.Native.Nat.{ℕ, _%_, _≤_, _<_}
 use native.Mathlib.Omega.{arith}
 use mathlib.Core.Bool.{Bool, true, false, cond}
 use mathlib.Core.List.{List, [], _∷_}
@@ -12,6 +12,8 @@ use lib.ListN.{length}
 use Rattle.frame.specs.Reply.{Reply, refused, accepted, refusalIn}
 use Rattle.frame.specs.Isolation.{Outcome, single}
 use Rattle.frame.proofs.Isolation.{single-refused, single-stranger, single-step}
+use Rattle.identifier.specs.Isin.{letterSum}
+use Rattle.identifier.proofs.IsinLaws.{letter-sum}
 use Rattle.tables.specs.Tables.{Tables}
 use Rattle.ledger.specs.Sound.{bankCount, ledgerFlaw}
 use Rattle.answer.specs.declared.Answer.{Answer}
@@ -28,7 +30,7 @@ use Rattle.calls.specs.Call.{Call, called, refusalOf, checkedOf, rowOf}
 use Rattle.calls.specs.Rules.{rules}
 use Rattle.calls.specs.Replied.{filedAs, outcome}
 use Rattle.calls.specs.Filing.{FileOutcome, fileOutcome, readingOf, carriedOut, fileOf}
-use Rattle.capi.specs.Exported.{exported, shortNumber, recordReply, recordExport, fileExport, writeReply, errorExport}
+use Rattle.capi.specs.Exported.{exported, shortNumber, recordReply, recordExport, fileExport, writeReply, errorExport, sumExport}
 
 -- a call whose buffer is too short: its own refusal, else 12
 pub short-refused : {n m r : ℕ} → n ≡ r → n ≢ 0 → m ≡ n → m ≡ shortNumber r
@@ -159,3 +161,7 @@ module _ (report answers member ours date time out : List ℕ) (r : Wrote) (b : 
   pub error-told : {n : ℕ} → r ≡ Error.Length n → exported 0 [] b (n ∷ []) ≡ errorExport report answers member ours date time out word
   unfolding errorExport
   error-told {n} e = told-wrote out word b n _ (ap (λ (x : Wrote). writeOutcome (wroteAs x) b) (sym e) ∙ o)
+
+-- the sum letter by letter, told for the sum over the digits
+pub sum-told : {n : ℕ} {s t : List ℕ} → n ≡ letterSum t % 10 → t ≡ s → n ≡ sumExport s
+sum-told e q = rw (letter-sum, q) at e

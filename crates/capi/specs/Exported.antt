@@ -1,7 +1,7 @@
 -- What the functions exported for C and Rust return and leave: the calls of documents 01 and 02 by one convention. A call returns 0 where it is carried
 -- out, else the number of its refusal, and then leaves every lent byte as it was; what it tells beside that stands in lent words.
 -- Assumes nothing.
-use Prim.Native.Nat.{ℕ}
+use Prim.Native.Nat.{ℕ, _%_}
 use mathlib.Core.Bool.{cond}
 use mathlib.Core.List.{List, [], _∷_, _++_}
 use lib.Dec.{ltb, eqb}
@@ -12,6 +12,7 @@ use Rattle.tables.specs.Tables.{Tables}
 use Rattle.answer.specs.Answer.{answerSize}
 use Rattle.fields.specs.declared.Place.{Place}
 use Rattle.fields.specs.Fields.{fieldPlace}
+use Rattle.identifier.specs.Isin.{digitSum}
 use Rattle.error_file.specs.ErrorFile.{errorFileOf}
 use Rattle.calls.specs.Call.{called}
 use Rattle.calls.specs.Rules.{rules}
@@ -62,3 +63,7 @@ writeReply out word (accepted text) = exported 0 [] (text ++ drop (length text) 
 
 unfoldable pub errorExport : List ℕ → List ℕ → List ℕ → List ℕ → List ℕ → List ℕ → List ℕ → ℕ → Exported
 errorExport report answers member ours date time out word = writeReply out word (errorFileOf member ours answers date time report (length out))
+
+-- document 02, Item 3, which is never refused: the sum over the digits that a text becomes, modulo 10
+abbrev pub sumExport : List ℕ → ℕ
+sumExport text = digitSum text % 10

@@ -5,7 +5,7 @@ ghost use mathlib.Core.Path.{_≡_};
 ghost use Rattle.tables.specs.Tables.{tablesOf};
 ghost use Rattle.ledger.specs.Sound.{ledgerFlaw};
 ghost use Rattle.calls.specs.Call.{called, refusalOf};
-ghost use Rattle.capi.specs.Exported.{exported, recordExport, fileExport, shortNumber, fieldNumbers, fieldExport, errorExport};
+ghost use Rattle.capi.specs.Exported.{exported, recordExport, fileExport, shortNumber, fieldNumbers, fieldExport, errorExport, sumExport};
 use calls::Replied;
 use calls::filing::Filed;
 use error_file::Wrote;
@@ -111,4 +111,12 @@ pub extern "C" fn roselhanda_error_file<'a>(
             0
         }
     }
+}
+
+// The sum over an ISIN without its check digit, or over any text, modulo 10.
+#[no_mangle]
+pub extern "C" fn roselhanda_isin_sum(text: &[u8]) -> u64
+    ensures { λ r. ⌜ r ≡ sumExport (now (text .entry)) ⌝ }
+{
+    identifier::letter_sum(text)
 }

@@ -127,8 +127,13 @@ weight-single v = up-to-tens _ (v / 10 + 2 * (v / 10) / 10) (omega (arith, fifti
     fifties : v / 50 ≡ 2 * (v / 10) / 10
     fifties = omega (arith, below)
 
-pub weight-capital : (b : ℕ) → 65 ≤ b → 2 * (b - 55) + b / 10 - 5 ≡ 2 * (b - 55) + (b - 55 + 5) / 10
-weight-capital b h = omega (arith, h)
+-- and the value of a capital b, which is b - 55 and under 40
+pub capital-doubled : (b : ℕ) → 65 ≤ b → (2 * (b - 55) + b / 10 - 5) % 10 ≡ valueWeight true (b - 55) % 10
+capital-doubled b h = let same : 2 * (b - 55) + b / 10 - 5 ≡ 2 * (b - 55) + (b - 55 + 5) / 10 = omega (arith, h) in rw same (weight-doubled (b - 55))
+
+pub capital-single : (b : ℕ) → b ≤ 90 → (b - 55) % 10 + 2 * ((b - 55) / 10) ≡ valueWeight false (b - 55)
+unfolding valueWeight
+capital-single b h = omega (arith, h)
 
 -- a digit turns the flag, another byte leaves it
 pub turned-digit : (f : Bool) (b : ℕ) {r : Bool} → r ≡ isDigit b → r ≡ true → not f ≡ turned f b

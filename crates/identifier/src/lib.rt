@@ -97,18 +97,18 @@ fn capital_weight(double: bool, b: u64) -> u64
     if double {
         2 * (b - 55) + b / 10 - 5
     } else {
-        weight(false, b - 55)
+        (b - 55) % 10 + 2 * ((b - 55) / 10)
     }
 }
 
-// The same for a letter, or any other byte but a digit.
+// The same for the value of a letter, or of another byte.
 fn letter_weight(double: bool, b: u8) -> u64
     ensures { λ r. ⌜ (r % 10 ≡ valueWeight double (letterValue b) % 10) × (r ≤ 600) ⌝ }
 {
-    if text::belongs(Class::Capital, b) {
-        return capital_weight(double, b as u64);
+    if !text::belongs(Class::Capital, b) {
+        return weight(double, value_of(b));
     }
-    weight(double, value_of(b))
+    capital_weight(double, b as u64)
 }
 
 // The last three digits of a sum.

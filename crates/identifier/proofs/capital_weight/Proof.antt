@@ -1,5 +1,7 @@
+use Prim.Native.Nat.{ℕ, _%_}
+use mathlib.Core.Path.{ap}
 use borrow.Author.Needs.{needs}
-use Rattle.identifier.proofs.IsinLaws.{weight-doubled, weight-capital}
+use Rattle.identifier.proofs.IsinLaws.{capital-doubled, capital-single}
 use Rattle.identifier.proofs.capital_weight.Statement.{statement}
 use Rattle.identifier.proofs.capital_weight.Tie as tie
 
@@ -15,17 +17,23 @@ add-result c = search needs
 sub-result-2 : tie.Need-sub-result-2
 sub-result-2 c = search needs
 
-sub-weight : tie.Need-sub-weight
-sub-weight c = search needs
+sub-result-3 : tie.Need-sub-result-3
+sub-result-3 c = search needs
 
-weight-requires : tie.Need-weight-requires
-weight-requires c κs = search needs
+sub-result-4 : tie.Need-sub-result-4
+sub-result-4 c = search needs
+
+mul-result-2 : tie.Need-mul-result-2
+mul-result-2 c = search needs
+
+add-result-2 : tie.Need-add-result-2
+add-result-2 c = search needs
 
 returns : tie.Need-returns
-returns c = (rw (c .if1 .taken, weight-capital _ (c .before .pre .0)) (weight-doubled _), search needs)
+returns c = (rw (c .if1 .taken) (capital-doubled _ (c .before .pre .0)), search needs)
 
 returns-2 : tie.Need-returns-2
-returns-2 c = (rw (c .before .if1 .left) (c .weight .ensures .0), search needs)
+returns-2 c = (rw (c .if1 .left) (ap (λ (n : ℕ). n % 10) (capital-single _ (c .before .pre .1))), search needs)
 
 pub capital-weight-spec : {M : Type 1} → statement M
 capital-weight-spec =
@@ -35,7 +43,9 @@ capital-weight-spec =
     mul-result
     add-result
     sub-result-2
-    sub-weight
-    weight-requires
+    sub-result-3
+    sub-result-4
+    mul-result-2
+    add-result-2
     returns
     returns-2)
