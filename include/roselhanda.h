@@ -1,5 +1,5 @@
-/* The checks and the ledger of document 01 and the error file of document 02, for C and C++, on
- * x86-64 Linux.
+/* The checks and the ledger of document 01, and the error file and the sum over an ISIN of document
+ * 02, for C and C++, on x86-64 Linux.
  *
  * Link with target/staticlib/libcapi.a (make lib).
  *
@@ -117,6 +117,14 @@ uint64_t roselhanda_error_file(const uint8_t *report, uint64_t report_length,
                                const uint8_t *time, uint64_t time_length,
                                uint8_t *out, uint64_t out_length,
                                uint64_t *written);
+
+/* Returns the last digit of the sum that the check digit of an ISIN is told by. A capital stands for
+ * 10 to 35; of all the digits every second one, from the last leftwards, is doubled and its digits
+ * are added. With text the eleven bytes before it, the check digit is (10 - sum) % 10.
+ * The text may have any length. Bytes that are neither capitals nor digits are summed too, as
+ * crates/identifier/specs/Isin.antt defines it.
+ * Never refused. */
+uint64_t roselhanda_isin_sum(const uint8_t *text, uint64_t text_length);
 
 #ifdef __cplusplus
 }

@@ -1,4 +1,6 @@
-// Values of ISINs and SWIFT addresses, each with a verdict from elsewhere, which is not looked at, and perhaps a label that says from where.
+// Values of ISINs and SWIFT addresses, each with a verdict from elsewhere, which is not looked at, and perhaps a label that says from where; and texts,
+// a case being a line: a name, the last digit of the sum from elsewhere, which is not looked at, and the text as pieces.
+use crate::pieces;
 use libc::STDOUT_FILENO;
 use words::before;
 use words::behind;
@@ -36,4 +38,19 @@ pub(crate) fn print_isin(line: &[u8]) {
 // Prints whether the value has the form of a SWIFT address.
 pub(crate) fn print_swift(line: &[u8]) {
     print(line, identifier::is_swift(value(before(line, b' '))));
+}
+
+// Prints the name, the length of the text, and the last digit of its sum.
+pub(crate) fn print_sum(line: &[u8]) {
+    let mut room = [0u8; 32768];
+    let end = pieces::write(&mut room, behind(behind(line, b' '), b' '));
+    io::write_all(STDOUT_FILENO, before(line, b' '));
+    io::write_all(STDOUT_FILENO, b" ");
+    io::print_decimal(STDOUT_FILENO, end as u64);
+    io::write_all(STDOUT_FILENO, b" ");
+    io::print_decimal(
+        STDOUT_FILENO,
+        identifier::letter_sum(text::front(&room, end)),
+    );
+    io::write_all(STDOUT_FILENO, b"\n");
 }

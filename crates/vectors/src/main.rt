@@ -2,6 +2,7 @@
 mod bookings;
 mod identifiers;
 mod lent;
+mod pieces;
 mod records;
 mod view;
 
@@ -11,6 +12,7 @@ use disk::load_or_fail;
 enum Kind {
     Isin,
     Swift,
+    Sum,
     Lent,
     Records,
     Fields,
@@ -22,6 +24,7 @@ fn print<'a>(kind: Kind, line: &'a [u8], reporters: &'a [u8], currencies: &'a [u
     match kind {
         Kind::Isin => identifiers::print_isin(line),
         Kind::Swift => identifiers::print_swift(line),
+        Kind::Sum => identifiers::print_sum(line),
         Kind::Lent => lent::print(line),
         Kind::Records => records::print(line, reporters, currencies),
         Kind::Fields => view::print(line),
@@ -61,6 +64,7 @@ fn main() {
     run(Kind::Isin, b"published.txt", reporters, currencies);
     run(Kind::Isin, b"isin.txt", reporters, currencies);
     run(Kind::Swift, b"bic.txt", reporters, currencies);
+    run(Kind::Sum, b"sums.txt", reporters, currencies);
     run(Kind::Lent, b"lent.txt", reporters, currencies);
     run(Kind::Records, b"records.txt", reporters, currencies);
     run(Kind::Records, b"underlying.txt", reporters, currencies);

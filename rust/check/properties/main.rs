@@ -2,7 +2,8 @@
 //! leave is compared. Seeds are fixed, so each run makes the same cases.
 //!
 //! The last line printed is `N passed, M failed`; what is counted are groups of up to 1,000 cases,
-//! and one for each place, each refusal and each sight of an error file that has to be hit.
+//! and one for each place, each refusal, each sight of an error file and each last digit of a sum
+//! that has to be hit.
 
 mod compare;
 mod damage;
@@ -14,6 +15,7 @@ mod read_back;
 mod records;
 mod rng;
 mod singles;
+mod sums;
 mod tally;
 mod values;
 mod world;
@@ -59,6 +61,10 @@ fn main() -> ExitCode {
     errors::long_lists(&mut check, &mut Rng::new(26), 60);
     errors::edited(&mut check, &mut Rng::new(27), 30_000);
     errors::shared_lists(&mut check, &mut Rng::new(28), 1_000);
+    sums::published(&mut check);
+    sums::drawn(&mut check, &mut Rng::new(29), 20_000, 40);
+    sums::any_bytes(&mut check, &mut Rng::new(30), 20_000);
+    nulls::sum(&mut check);
 
     let (passed, failed) = check.report();
     println!("{passed} passed, {failed} failed");

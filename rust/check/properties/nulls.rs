@@ -61,6 +61,8 @@ extern "C" {
         out_length: u64,
         written: *mut u64,
     ) -> u64;
+
+    fn roselhanda_isin_sum(text: *const u8, text_length: u64) -> u64;
 }
 
 /// What a call is lent; a slice that is empty is lent as a null pointer.
@@ -314,4 +316,12 @@ pub fn error_files(check: &mut Check) {
             });
         }
     }
+}
+
+/// The sum over an empty text.
+pub fn sum(check: &mut Check) {
+    check.section("null pointers for what is empty: sums");
+    // SAFETY: a null pointer with length 0 is read nowhere.
+    let sum = unsafe { roselhanda_isin_sum(ptr::null(), 0) };
+    check.case(sum == 0, || format!("the sum over nothing is {sum}"));
 }

@@ -1,15 +1,18 @@
-//! Counting: cases in groups, hits of places, refusals and what error files show, and the verdict.
+//! Counting: cases in groups, hits of places, refusals, what error files show and what sums end in,
+//! and the verdict.
 
 use std::time::Instant;
 
+use roselhanda::raw;
 use roselhanda::{code_of, ANSWER_SIZE};
 
 use crate::compare::{ErrorCall, FileCall, Left, Outcome, RecordCall, Sides};
 use crate::read_back::{ReadBack, SIGHTS};
+use crate::values::digit_sum;
 
 /// Cases of one group.
 const GROUP: u64 = 1_000;
-/// Each place, refusal and sight has to be hit at least so often.
+/// Each place, refusal, sight and last digit has to be hit at least so often.
 const FEWEST_HITS: u64 = 100;
 /// Failed cases that are shown in full.
 const SHOWN: u64 = 10;
@@ -71,6 +74,8 @@ pub struct Check {
     /// Of each kind of call, by number.
     refusals: [[u64; NUMBERS]; KINDS.len()],
     sights: [u64; SIGHTS.len()],
+    /// By the last digit of a sum.
+    sums: [u64; 10],
 }
 
 /// Whether a place was judged in an answer with this set of failures.
@@ -103,6 +108,7 @@ impl Check {
             places: [PlaceHits::default(); 64],
             refusals: [[0; NUMBERS]; KINDS.len()],
             sights: [0; SIGHTS.len()],
+            sums: [0; 10],
         }
     }
 
@@ -233,6 +239,25 @@ impl Check {
         })
     }
 
+    /// One case: the sum over a text, held to the list of its digits and, if it is one of capitals
+    /// and digits, to the twin. Gives the sum of the proved side.
+    pub fn sum(&mut self, text: &[u8]) -> u64 {
+        let sum = raw::isin_sum(text);
+        let due = digit_sum(text) % 10;
+        let is_usual = text.iter().all(twin::forms::is_capital_or_digit);
+        let twin = if is_usual { twin::isin_sum(text) } else { due };
+        if let Some(hits) = self.sums.get_mut(sum as usize) {
+            *hits += 1;
+        }
+        self.case(sum == due && sum == twin, || {
+            format!(
+                "{sum}, {due} by its digits, {twin} of the twin: {}",
+                shown(text)
+            )
+        });
+        sum
+    }
+
     /// Counts what an error file shows.
     fn saw(&mut self, file: &ReadBack) {
         for (hits, (_, count)) in self.sights.iter_mut().zip(SIGHTS) {
@@ -335,6 +360,12 @@ impl Check {
         for (hits, (name, _)) in self.sights.into_iter().zip(SIGHTS) {
             let ok = hits >= FEWEST_HITS;
             println!("{name:<43} {hits:>9}{}", if ok { "" } else { "  TOO FEW" });
+            self.count(ok);
+        }
+        println!("\n{:<43} {:>9}", "sums that end in", "hits");
+        for (digit, hits) in self.sums.into_iter().enumerate() {
+            let ok = hits >= FEWEST_HITS;
+            println!("{digit:<43} {hits:>9}{}", if ok { "" } else { "  TOO FEW" });
             self.count(ok);
         }
         println!();

@@ -62,21 +62,32 @@ pub fn address(rng: &mut Rng) -> Vec<u8> {
     address
 }
 
-/// The check digit of eleven bytes, worked out over the string of digits that they become.
-fn check_digit(eleven: &[u8]) -> u8 {
+/// The sum over the digits that a text becomes, worked out over the whole list of them.
+pub fn digit_sum(text: &[u8]) -> u64 {
     let mut digits = Vec::new();
-    for &byte in eleven {
+    for &byte in text {
         match byte {
             b'0'..=b'9' => digits.push(byte - b'0'),
-            _ => digits.extend([(byte - b'A' + 10) / 10, (byte - b'A' + 10) % 10]),
+            _ => {
+                let value = byte.saturating_sub(b'A') + 10;
+                digits.extend([value / 10, value % 10]);
+            }
         }
     }
     let mut sum = 0;
     for (steps, digit) in digits.iter().rev().enumerate() {
-        let weighed = if steps % 2 == 0 { digit * 2 } else { *digit };
-        sum += weighed / 10 + weighed % 10;
+        sum += u64::from(if steps % 2 == 0 {
+            2 * digit / 10 + 2 * digit % 10
+        } else {
+            *digit
+        });
     }
-    (10 - sum % 10) % 10 + b'0'
+    sum
+}
+
+/// The check digit of eleven bytes.
+fn check_digit(eleven: &[u8]) -> u8 {
+    ((10 - digit_sum(eleven) % 10) % 10) as u8 + b'0'
 }
 
 /// A valid ISIN.

@@ -173,6 +173,23 @@ pub fn error_file(
     Ok(file)
 }
 
+/// The last digit of the sum that the check digit of an ISIN is told by, over a text of any length.
+///
+/// A capital stands for 10 to 35; of all the digits every second one, from the last leftwards, is
+/// doubled and its digits are added. Bytes that are neither capitals nor digits are summed too, in a
+/// way that means nothing to an ISIN.
+///
+/// ```
+/// use roselhanda::isin_sum;
+///
+/// let check_digit = |isin: &[u8]| (10 - isin_sum(&isin[..11])) % 10;
+/// assert_eq!(check_digit(b"AT0000831706"), 6);
+/// assert_eq!(check_digit(b"AT0000A02MR0"), 0);
+/// ```
+pub fn isin_sum(text: &[u8]) -> u64 {
+    raw::isin_sum(text)
+}
+
 /// A reply as a result.
 fn carried_out(reply: u64) -> Result<(), Refusal> {
     match reply {

@@ -58,6 +58,8 @@ mod archive {
             out_length: usize,
             written: *mut u64,
         ) -> u64;
+
+        pub fn roselhanda_isin_sum(text: *const u8, text_length: usize) -> u64;
     }
 }
 
@@ -160,4 +162,10 @@ pub fn error_file(
             written,
         )
     }
+}
+
+/// The sum over the digits of a text, modulo 10, never refused.
+pub fn isin_sum(text: &[u8]) -> u64 {
+    // SAFETY: the pointer comes with the length of its slice, which lives through the call.
+    unsafe { archive::roselhanda_isin_sum(text.as_ptr(), text.len()) }
 }

@@ -39,19 +39,21 @@ pub fn is_isin_form(bytes: &[u8]) -> bool {
         && bytes[11].is_ascii_digit()
 }
 
-/// Whether the check digit of a value in ISIN form is right.
-pub fn has_right_check_digit(isin: &[u8]) -> bool {
+/// The sum over the digits of a text of capitals and digits, modulo 10: a capital becomes two
+/// digits, and from the last digit leftwards every second one, that one included, is doubled and
+/// its digits are added.
+pub fn isin_sum(text: &[u8]) -> u64 {
     let mut sum = 0;
-    let mut doubled = false;
+    let mut doubled = true;
     let mut add = |digit: u8| {
-        sum += match (doubled, digit) {
+        sum += u64::from(match (doubled, digit) {
             (false, _) => digit,
             (true, 0..=4) => 2 * digit,
             (true, _) => 2 * digit - 9,
-        };
+        });
         doubled = !doubled;
     };
-    for &byte in isin.iter().rev() {
+    for &byte in text.iter().rev() {
         if byte.is_ascii_digit() {
             add(byte - b'0');
         } else {
@@ -60,7 +62,12 @@ pub fn has_right_check_digit(isin: &[u8]) -> bool {
             add(value / 10);
         }
     }
-    sum % 10 == 0
+    sum % 10
+}
+
+/// Whether the check digit of a value in ISIN form is right.
+pub fn has_right_check_digit(isin: &[u8]) -> bool {
+    (isin_sum(&isin[..11]) + u64::from(isin[11] - b'0')) % 10 == 0
 }
 
 /// ISIN form with the right check digit.

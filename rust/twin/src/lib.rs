@@ -20,4 +20,5 @@ pub mod tables;
 pub use calls::{book_file, book_record};
 pub use error_file::error_file;
 pub use fields::field;
+pub use forms::isin_sum;
 pub use refusal::Refusal;

@@ -3,8 +3,8 @@ use Prim.Native.Nat.{_-_}
 use mathlib.Core.Path.{_≡_}
 use lib.ListN.{length}
 use Rattle.words.proofs.LineLaws.{next-less}
-use Rattle.vectors.proofs.view.write_record.Statement.{statement}
-use Rattle.vectors.proofs.view.write_record.Tie as tie
+use Rattle.vectors.proofs.pieces.write.Statement.{statement}
+use Rattle.vectors.proofs.pieces.write.Tie as tie
 
 abbrev Inv-loop : tie.InvT-loop
 Inv-loop out₀ pieces end₀ at₀ out end at = length out ≡ length out₀
@@ -24,8 +24,8 @@ loop-again c = search needs
 same-length : tie.Need-same-length Inv-loop μ-loop
 same-length c = search needs
 
-pub write-record-spec : {M : Type 1} → statement M
-write-record-spec =
+pub write-spec : {M : Type 1} → statement M
+write-spec =
     tie.close
     (tie.spec
     Inv-loop
