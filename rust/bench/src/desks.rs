@@ -6,6 +6,7 @@ use roselhanda::raw;
 
 use crate::error_rows;
 use crate::rows::{Inputs, ANSWER_SIZE};
+use crate::sum_rows;
 
 #[derive(Clone, Copy, PartialEq, Eq)]
 pub enum Side {
@@ -15,8 +16,8 @@ pub enum Side {
     None,
 }
 
-/// What a call comes to: its count of records, 1 for a single call, the length of an error file,
-/// or the number of its refusal.
+/// What a call comes to: its count of records, 1 for a single call, the length of an error file, a
+/// sum, or the number of its refusal.
 pub type Outcome = Result<u64, u64>;
 
 /// The inputs of a row with the buffers that its calls write.
@@ -30,8 +31,8 @@ pub trait Desk {
     /// Both sides come to the same, all that they write too, and to what the row is made for.
     fn agrees(&mut self) -> bool;
 
-    /// Bytes of the file that the call writes, if it writes one.
-    fn file_length(&self) -> Option<usize>;
+    /// Bytes of the file that the call writes or of the text that it sums, if it does.
+    fn bytes(&self) -> Option<usize>;
 }
 
 /// A single-record call or a file call.
@@ -112,7 +113,7 @@ impl Desk for Booking {
         same && proved.0 == self.inputs.due && booked.count() == self.inputs.booked
     }
 
-    fn file_length(&self) -> Option<usize> {
+    fn bytes(&self) -> Option<usize> {
         None
     }
 }
@@ -171,7 +172,42 @@ impl Desk for Errors {
         })
     }
 
-    fn file_length(&self) -> Option<usize> {
+    fn bytes(&self) -> Option<usize> {
         Some(self.inputs.due.len())
+    }
+}
+
+/// A sum over a text.
+pub struct Sum {
+    inputs: sum_rows::Inputs,
+}
+
+impl Sum {
+    pub fn new(inputs: sum_rows::Inputs) -> Self {
+        Sum { inputs }
+    }
+}
+
+impl Desk for Sum {
+    fn restore(&mut self) {
+        black_box(&mut self.inputs.text);
+    }
+
+    fn call(&mut self, side: Side) -> Outcome {
+        match side {
+            Side::Proved => Ok(raw::isin_sum(&self.inputs.text)),
+            Side::Twin => Ok(twin::isin_sum(&self.inputs.text)),
+            Side::None => Ok(0),
+        }
+    }
+
+    fn agrees(&mut self) -> bool {
+        [Side::Proved, Side::Twin]
+            .into_iter()
+            .all(|side| self.call(side) == Ok(self.inputs.due))
+    }
+
+    fn bytes(&self) -> Option<usize> {
+        Some(self.inputs.text.len())
     }
 }

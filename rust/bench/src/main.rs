@@ -1,14 +1,15 @@
 //! The proved archive timed beside its twin, on the same inputs in the same run.
 //!
-//! - `bench [COUNTS]` prints a table of the usual cases, one of the worst and one of error files;
-//!   lines `ROW SIDE INSTRUCTIONS` of the file COUNTS fill their columns of instructions.
-//! - `bench rows` lists the rows of all three.
+//! - `bench [COUNTS]` prints a table of the usual cases, one of the worst, one of error files and one
+//!   of sums; lines `ROW SIDE INSTRUCTIONS` of the file COUNTS fill their columns of instructions.
+//! - `bench rows` lists the rows of all four.
 //! - `bench count SIDE ROW REPS` makes the calls of a row and nothing else, for a counter of
 //!   instructions. SIDE is `proved`, `twin`, or `none`, which only restores the ledger.
 
 mod desks;
 mod error_rows;
 mod rows;
+mod sum_rows;
 
 use std::collections::HashMap;
 use std::env;
@@ -25,7 +26,7 @@ const ROUNDS: usize = 31;
 const SPAN: Duration = Duration::from_micros(1_500);
 
 /// The tables: what stands above the names of their rows, and the rows.
-fn tables() -> [(&'static str, Vec<&'static dyn Named>); 3] {
+fn tables() -> [(&'static str, Vec<&'static dyn Named>); 4] {
     fn named<R: Named>(rows: &'static [R]) -> Vec<&'static dyn Named> {
         rows.iter().map(|row| row as &dyn Named).collect()
     }
@@ -33,6 +34,7 @@ fn tables() -> [(&'static str, Vec<&'static dyn Named>); 3] {
         ("row", named(&rows::USUAL)),
         ("worst case", named(&rows::WORST)),
         ("error file", named(&error_rows::ERRORS)),
+        ("sum", named(&sum_rows::SUMS)),
     ]
 }
 
@@ -103,7 +105,7 @@ fn read_counts(path: &str) -> Option<HashMap<(String, String), u64>> {
 }
 
 /// Prints the rows of one table, or says in which of them the two sides differ. Rows that write a
-/// file end with its bytes, and the instructions of the proved side for each of them.
+/// file or sum a text end with its bytes, and the instructions of the proved side for each of them.
 fn print_rows(title: &str, rows: &[&dyn Named], counts: &HashMap<(String, String), u64>) -> bool {
     let mut desks: Vec<Box<dyn Desk>> = rows.iter().map(|row| row.desk()).collect();
     for (desk, row) in desks.iter_mut().zip(rows) {
@@ -112,14 +114,14 @@ fn print_rows(title: &str, rows: &[&dyn Named], counts: &HashMap<(String, String
             return false;
         }
     }
-    let lengths: Vec<Option<usize>> = desks.iter().map(|desk| desk.file_length()).collect();
-    let of_files = if lengths.iter().any(Option::is_some) {
+    let lengths: Vec<Option<usize>> = desks.iter().map(|desk| desk.bytes()).collect();
+    let of_bytes = if lengths.iter().any(Option::is_some) {
         format!(" {:>7} {:>10}", "bytes", "instr/byte")
     } else {
         String::new()
     };
     println!(
-        "{title:<17} {:>10} {:>10} {:>6}  {:>12} {:>12} {:>6}{of_files}",
+        "{title:<17} {:>10} {:>10} {:>6}  {:>12} {:>12} {:>6}{of_bytes}",
         "proved ns", "twin ns", "ratio", "proved instr", "twin instr", "ratio"
     );
     let times = measure(&mut desks);
@@ -133,7 +135,7 @@ fn print_rows(title: &str, rows: &[&dyn Named], counts: &HashMap<(String, String
             }
             _ => format!("{:>12} {:>12} {:>6}", "-", "-", "-"),
         };
-        let of_file = match (length, count("proved")) {
+        let of_byte = match (length, count("proved")) {
             (Some(length), Some(proved)) => {
                 format!(" {length:>7} {:>10.2}", proved as f64 / length as f64)
             }
@@ -141,7 +143,7 @@ fn print_rows(title: &str, rows: &[&dyn Named], counts: &HashMap<(String, String
             (None, _) => String::new(),
         };
         let ratio = proved / twin;
-        println!("{name:<17} {proved:>10.0} {twin:>10.0} {ratio:>6.2}  {instructions}{of_file}");
+        println!("{name:<17} {proved:>10.0} {twin:>10.0} {ratio:>6.2}  {instructions}{of_byte}");
     }
     true
 }
