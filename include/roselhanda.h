@@ -7,9 +7,10 @@
  * called from any thread on buffers of its own; what is only read may be shared.
  *
  * One convention: a function returns 0 where the call is carried out, else the number of its
- * refusal, and a refused call writes nothing. Counts and lengths are told in lent words, the last
- * arguments, which may not be null. Every other pointer comes with its length, and may be null
- * where that is 0. What is lent for writing may not overlap anything else that is lent.
+ * refusal, and a refused call writes nothing; the two that are never refused return what they tell.
+ * Counts and lengths are told in lent words, the last arguments, which may not be null. Every other
+ * pointer comes with its length, and may be null where that is 0. What is lent for writing may not
+ * overlap anything else that is lent.
  *
  * What each function returns and leaves is proved; crates/capi/specs/Exported.antt defines it.
  */
@@ -118,9 +119,10 @@ uint64_t roselhanda_error_file(const uint8_t *report, uint64_t report_length,
                                uint8_t *out, uint64_t out_length,
                                uint64_t *written);
 
-/* Returns the last digit of the sum that the check digit of an ISIN is told by. A capital stands for
- * 10 to 35; of all the digits every second one, from the last leftwards, is doubled and its digits
- * are added. With text the eleven bytes before it, the check digit is (10 - sum) % 10.
+/* Returns the last digit of the sum that the check digit of an ISIN is told by: for the eleven bytes
+ * before it, the check digit is (10 - sum) % 10. A capital becomes two digits, A 10 to Z 35. All
+ * digits are added up; the last one and every second one to its left are doubled first, and where
+ * that gives two digits these are added.
  * The text may have any length. Bytes that are neither capitals nor digits are summed too, as
  * crates/identifier/specs/Isin.antt defines it.
  * Never refused. */

@@ -10,8 +10,9 @@ int main(void) {
     for (i = 0; i < sizeof isins / sizeof isins[0]; i++) {
         const uint8_t *isin = (const uint8_t *)isins[i];
         uint64_t sum = roselhanda_isin_sum(isin, 11);
-        uint64_t due = (10 - sum) % 10;
-        printf("%s: sum %" PRIu64 ", check digit %" PRIu64 ", %s\n", isins[i], sum, due, isin[11] - '0' == (int)due ? "right" : "wrong");
+        uint64_t digit = (10 - sum) % 10;
+        printf("%s: sum %" PRIu64 ", check digit %" PRIu64 ", %s\n", isins[i], sum, digit,
+               isin[11] == '0' + digit ? "right" : "wrong");
     }
     printf("nothing: sum %" PRIu64 "\n", roselhanda_isin_sum(NULL, 0));
     return 0;

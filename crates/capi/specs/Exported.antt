@@ -1,5 +1,6 @@
 -- What the functions exported for C and Rust return and leave: the calls of documents 01 and 02 by one convention. A call returns 0 where it is carried
--- out, else the number of its refusal, and then leaves every lent byte as it was; what it tells beside that stands in lent words.
+-- out, else the number of its refusal, and then leaves every lent byte as it was; what it tells beside that stands in lent words. The two that are never
+-- refused return what they tell.
 -- Assumes nothing.
 use Prim.Native.Nat.{ℕ, _%_}
 use mathlib.Core.Bool.{cond}

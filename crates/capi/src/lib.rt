@@ -1,5 +1,5 @@
 // The functions exported for C and Rust: a slice is a pointer and a length. Each returns 0 where it is carried out, else the number of its refusal, and a
-// refused call writes nothing.
+// refused call writes nothing; the field view and the sum are never refused, and return what they tell.
 ghost use mathlib.Core.List.{[], _∷_};
 ghost use mathlib.Core.Path.{_≡_};
 ghost use Rattle.tables.specs.Tables.{tablesOf};

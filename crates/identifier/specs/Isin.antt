@@ -38,16 +38,16 @@ weighted double (d ∷ ds) = cond double (doubled d) d + weighted (not double) d
 unfoldable pub digitSum : List ℕ → ℕ
 digitSum s = weighted true (reverse (digits s))
 
--- Document 02, Item 3, that sum letter by letter, with no list of digits. What a value of one or two digits adds: the last of them doubled where the
--- flag says so, the one before it where it does not
+-- Document 02, Item 3: the same sum letter by letter, with no list of digits. What a value adds: its last digit, doubled where the flag says so, and the
+-- one before it, 0 for a digit, doubled where the flag does not
 unfoldable pub valueWeight : Bool → ℕ → ℕ
 valueWeight double v = cond double (doubled (v % 10) + v / 10) (v % 10 + doubled (v / 10))
 
--- whether the digit to the left is doubled: the one of a digit turns the flag, the two of a letter leave it
+-- whether the next digit to the left is doubled: one digit turns the flag, the two of a letter leave it
 unfoldable pub turned : Bool → ℕ → Bool
 turned double b = cond (isDigit b) (not double) double
 
--- the sum over letters of which the first is the last of the text, and so over the text from its last letter leftwards
+-- the sum over letters that stand from right to left, and over a text, from its last letter leftwards
 unfoldable pub lettersFrom : Bool → List ℕ → ℕ
 lettersFrom double [] = 0
 lettersFrom double (b ∷ bs) = valueWeight double (letterValue b) + lettersFrom (turned double b) bs

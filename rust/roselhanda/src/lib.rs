@@ -175,9 +175,9 @@ pub fn error_file(
 
 /// The last digit of the sum that the check digit of an ISIN is told by, over a text of any length.
 ///
-/// A capital stands for 10 to 35; of all the digits every second one, from the last leftwards, is
-/// doubled and its digits are added. Bytes that are neither capitals nor digits are summed too, in a
-/// way that means nothing to an ISIN.
+/// A capital becomes two digits, `A` 10 to `Z` 35. All digits are added up; the last one and every
+/// second one to its left are doubled first, and where that gives two digits these are added. Bytes
+/// that are neither capitals nor digits are summed too, in a way that means nothing to an ISIN.
 ///
 /// ```
 /// use roselhanda::isin_sum;

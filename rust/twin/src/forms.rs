@@ -40,8 +40,8 @@ pub fn is_isin_form(bytes: &[u8]) -> bool {
 }
 
 /// The sum over the digits of a text of capitals and digits, modulo 10: a capital becomes two
-/// digits, and from the last digit leftwards every second one, that one included, is doubled and
-/// its digits are added.
+/// digits, and from the last digit leftwards the first, the third and so on are doubled, their own
+/// digits added.
 pub fn isin_sum(text: &[u8]) -> u64 {
     let mut sum = 0;
     let mut doubled = true;
