@@ -135,27 +135,20 @@ pub capital-single : (b : ℕ) → b ≤ 90 → (b - 55) % 10 + 2 * ((b - 55) / 
 unfolding valueWeight
 capital-single b h = omega (arith, h)
 
--- a digit turns the flag, another byte leaves it
-pub turned-digit : (f : Bool) (b : ℕ) {r : Bool} → r ≡ isDigit b → r ≡ true → not f ≡ turned f b
+-- the flag behind a byte, d saying whether that is a digit
+pub turned-by : (f : Bool) (b : ℕ) {r d : Bool} → r ≡ isDigit b → r ≡ d → cond d (not f) f ≡ turned f b
 unfolding turned
-turned-digit f b e t = rw (← e, t) refl
-
-pub turned-other : (f : Bool) (b : ℕ) {r : Bool} → r ≡ isDigit b → r ≡ false → f ≡ turned f b
-unfolding turned
-turned-other f b e t = rw (← e, t) refl
+turned-by f b e q = rw (← e, q) refl
 
 -- what the walk keeps, n being its total and i the count of letters left: the sum over these, added to n, has the last digit of the whole
-last-of : (n m : ℕ) → (n % 10 + m) % 10 ≡ (n + m) % 10
-last-of n m = omega arith
-
 last-three : (n t : ℕ) → (n % 1000 + t) % 10 ≡ (n + t) % 10
 last-three n t = omega arith
 
 kept : (n m w t : ℕ) → m % 10 ≡ w % 10 → (n + (w + t)) % 10 ≡ ((n + m) % 1000 + t) % 10
 kept n m w t e =
-    let one : (n + (w + t)) % 10 ≡ (w % 10 + (n + t)) % 10 = omega arith in
-    let two : (m % 10 + (n + t)) % 10 ≡ ((n + m) + t) % 10 = omega arith in
-    one ∙ rw (← e) two ∙ sym (last-three (n + m) t)
+    let of-w : (n + (w + t)) % 10 ≡ (w % 10 + (n + t)) % 10 = omega arith in
+    let of-m : (m % 10 + (n + t)) % 10 ≡ (n + m + t) % 10 = omega arith in
+    of-w ∙ rw (← e) of-m ∙ sym (last-three (n + m) t)
 
 pub sum-start : (s : List ℕ) → letterSum s % 10 ≡ (0 + lettersFrom true (reverse (take (length s) s))) % 10
 unfolding letterSum
@@ -177,7 +170,10 @@ sum-end s f zero n e h = omega (arith, e)
 sum-end s f (suc i) n e h = absurd (not-suc-le-zero h)
 
 -- the check digit by the last digit of the sum
+last-one : (n v : ℕ) → (n % 10 + v) % 10 ≡ (n + v) % 10
+last-one n v = omega arith
+
 pub check-digit : (s : List ℕ) {n v b : ℕ} {t : List ℕ} → n ≡ letterSum t % 10 → t ≡ take 11 s → v ≡ letterValue b → b ≡ getD s 11 0
     → eqb ((n + v) % 10) 0 ≡ checkDigitRight s
 unfolding checkDigitRight
-check-digit s p q r e = rw (p, q, r, e, last-of, letter-sum) refl
+check-digit s p q r e = rw (p, q, r, e, last-one, letter-sum) refl

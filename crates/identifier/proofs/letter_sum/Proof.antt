@@ -7,7 +7,7 @@ use mathlib.Core.Path.{_≡_}
 use native.Mathlib.Omega.{arith}
 use lib.ListN.{length, take}
 use Rattle.identifier.specs.Isin.{lettersFrom, letterSum}
-use Rattle.identifier.proofs.IsinLaws.{turned-digit, turned-other, sum-start, sum-more, sum-end}
+use Rattle.identifier.proofs.IsinLaws.{turned-by, sum-start, sum-more, sum-end}
 use Rattle.identifier.proofs.letter_sum.Statement.{statement}
 use Rattle.identifier.proofs.letter_sum.Tie as tie
 
@@ -47,7 +47,7 @@ loop-again c =
       search needs,
       omega arith,
       sum-more _ _ _ _ _ (walked .2) (tested .loop-test .taken) (walked .0) added (c .last-digits .ensures)
-          (turned-digit _ _ (asked .belongs .ensures) (c .before .before .before .if1 .taken)),
+          (turned-by _ _ (asked .belongs .ensures) (c .before .before .before .if1 .taken)),
     )
 
 add-last-digits-2 : tie.Need-add-last-digits-2 Inv-loop μ-loop
@@ -68,7 +68,7 @@ loop-again-2 c =
       search needs,
       omega arith,
       sum-more _ _ _ _ _ (walked .2) (tested .loop-test .taken) (walked .0) added (c .last-digits2 .ensures)
-          (turned-other _ _ (asked .belongs .ensures) (c .before .before .if1 .left)),
+          (turned-by _ _ (asked .belongs .ensures) (c .before .before .if1 .left)),
     )
 
 returns : tie.Need-returns Inv-loop μ-loop
