@@ -16,7 +16,8 @@ use Rattle.frame.proofs.BoolLaws.{and-left, and-right}
 use Rattle.text.specs.Class.{isDigit, isCapital, isCapitalOrDigit}
 use Rattle.text.specs.Bytes.{all}
 use Rattle.text.proofs.ByteLaws.{digit-high}
-use Rattle.identifier.specs.Isin.{letterValue, digitsOf, digits, doubled, weighted, digitSum, valueWeight, turned, lettersFrom, letterSum, checkDigitRight}
+use Rattle.identifier.specs.Isin.{letterValue, digitsOf, digits, doubled, weighted, digitSum, checkDigitRight}
+use Rattle.identifier.specs.Isin.{valueWeight, turned, lettersFrom, letterSum}
 
 -- a digit is worth less than 10, a capital 55 less than its byte
 digit-value : (b : ℕ) → isDigit b ≡ true → letterValue b < 10
@@ -140,15 +141,19 @@ pub turned-by : (f : Bool) (b : ℕ) {r d : Bool} → r ≡ isDigit b → r ≡ 
 unfolding turned
 turned-by f b e q = rw (← e, q) refl
 
--- what the walk keeps, n being its total and i the count of letters left: the sum over these, added to n, has the last digit of the whole
-last-three : (n t : ℕ) → (n % 1000 + t) % 10 ≡ (n + t) % 10
-last-three n t = omega arith
+-- two numbers that end alike still do with the same added to both
+ends-alike : (m n t : ℕ) → m % 10 ≡ n % 10 → (m + t) % 10 ≡ (n + t) % 10
+ends-alike m n t e = last m ∙ rw e (sym (last n))
+  where
+    last : (k : ℕ) → (k + t) % 10 ≡ (k % 10 + t) % 10
+    last k = omega arith
 
+-- what the walk keeps, n being its total and i the count of letters left: the sum over these, added to n, has the last digit of the whole
 kept : (n m w t : ℕ) → m % 10 ≡ w % 10 → (n + (w + t)) % 10 ≡ ((n + m) % 1000 + t) % 10
 kept n m w t e =
-    let of-w : (n + (w + t)) % 10 ≡ (w % 10 + (n + t)) % 10 = omega arith in
-    let of-m : (m % 10 + (n + t)) % 10 ≡ (n + m + t) % 10 = omega arith in
-    of-w ∙ rw (← e) of-m ∙ sym (last-three (n + m) t)
+    let first : n + (w + t) ≡ w + (n + t) = omega arith in
+    let then : m + (n + t) ≡ n + m + t = omega arith in
+    rw first (ends-alike w m (n + t) (sym e) ∙ rw then (ends-alike (n + m) ((n + m) % 1000) t (omega arith)))
 
 pub sum-start : (s : List ℕ) → letterSum s % 10 ≡ (0 + lettersFrom true (reverse (take (length s) s))) % 10
 unfolding letterSum
@@ -170,10 +175,9 @@ sum-end s f zero n e h = omega (arith, e)
 sum-end s f (suc i) n e h = absurd (not-suc-le-zero h)
 
 -- the check digit by the last digit of the sum
-last-one : (n v : ℕ) → (n % 10 + v) % 10 ≡ (n + v) % 10
-last-one n v = omega arith
-
 pub check-digit : (s : List ℕ) {n v b : ℕ} {t : List ℕ} → n ≡ letterSum t % 10 → t ≡ take 11 s → v ≡ letterValue b → b ≡ getD s 11 0
     → eqb ((n + v) % 10) 0 ≡ checkDigitRight s
 unfolding checkDigitRight
-check-digit s p q r e = rw (p, q, r, e, last-one, letter-sum) refl
+check-digit s {n} p q r e =
+    let last : n % 10 ≡ digitSum (take 11 s) % 10 = rw (p, q, letter-sum) (omega arith) in
+    ap (λ (k : ℕ). eqb k 0) (ends-alike n (digitSum (take 11 s)) _ last) ∙ rw (r, e) refl

@@ -1,4 +1,4 @@
--- The ISIN of ISO 6166: its form and its check digit, as document 01 words them.
+-- The ISIN of ISO 6166: its form and its check digit, as document 01 words them, and the sum letter by letter of document 02, Item 3.
 -- Assumes nothing.
 use Prim.Native.Nat.{ℕ, _+_, _-_, _*_, _/_, _%_}
 use Prim.Native.Char.{code}

@@ -33,8 +33,8 @@ const fn row(
 const CAPITALS: &str = "QWERTZUIOPASDFGHJKLYXCVBNM";
 const DIGITS: &str = "3141592653";
 
-/// An ISIN before its check digit, and texts of 32,768 letters. Behind a digit the last digit of
-/// no capital is doubled.
+/// ISINs before their check digit, and texts of 32,768 letters. Where a digit ends the text, the
+/// last digit of no capital is doubled.
 pub const SUMS: [Row; 6] = [
     row("isin-11", 11, "AT000083170", "", 4),
     row("isin-11-letters", 11, "AT0000A02MR", "", 0),
