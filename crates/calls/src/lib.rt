@@ -100,7 +100,7 @@ fn quantity(f22: &[u8]) -> u64
     ensures { λ r. ⌜ r ≡ valueOf (decimalOf 15 4 (now (f22 .entry))) ⌝ }
 {
     match decimal::read(f22, 15, 4) {
-        Decimal::Value(q) => q,
+        Decimal::Value(amount) => amount.value,
         Decimal::Malformed => 0,
     }
 }

@@ -1,17 +1,22 @@
-// Decimal numbers of the form Nm,n, shown once over m and n.
+// Decimal numbers of the form Nm,n, and whether they are zero, shown once over m and n.
 ghost use mathlib.Core.Path.{_≡_};
 ghost use mathlib.Core.Bool.{true};
 ghost use Prim.Native.Nat.{_≤_, _<_, _+_, _-_, _*_, _^_};
 ghost use lib.ListN.{length};
 ghost use Rattle.text.specs.Class.{isDigit};
 ghost use Rattle.text.specs.Bytes.{all};
-ghost use Rattle.decimal.specs.Decimal.{digitsUpTo, digitsValue, wholeOnly, wholeAndPart, decimalOf};
+ghost use Rattle.decimal.specs.Decimal.{digitsUpTo, digitsValue, amountOf, wholeOnly, wholeAndPart, decimalOf};
 use text::Class;
+
+// A value, in units of the last place behind the comma that the form allows; and whether it is zero.
+pub struct Amount {
+    pub value: u64,
+    pub zero: bool,
+}
 
 // What reading a decimal finds.
 pub enum Decimal {
-    // In units of the last place behind the comma that the form allows.
-    Value(u64),
+    Value(Amount),
     Malformed,
 }
 
@@ -83,13 +88,25 @@ fn scaled(s: &[u8], n: usize) -> u64
     number_of(s) * power(n)
 }
 
+// The value of a whole part and of the part behind the comma, and whether it is zero.
+fn amount_of(whole: u64, part: u64) -> Amount
+    requires { ⌜ whole + part < 2 ^ 64 ⌝ }
+    ensures { λ r. ⌜ r ≡ amountOf (whole + part) ⌝ }
+{
+    let value = whole + part;
+    Amount {
+        value: value,
+        zero: value == 0,
+    }
+}
+
 // The digits w, without a comma.
 fn read_whole(w: &[u8], m: usize, n: usize) -> Decimal
     requires { ⌜ m + n ≤ 19 ⌝ }
     ensures { λ r. ⌜ r ≡ wholeOnly m n (now (w .entry)) ⌝ }
 {
     if is_digits(w, m) {
-        Decimal::Value(scaled(w, n))
+        Decimal::Value(amount_of(scaled(w, n), 0))
     } else {
         Decimal::Malformed
     }
@@ -101,7 +118,7 @@ fn read_both<'a>(w: &'a [u8], f: &'a [u8], m: usize, n: usize) -> Decimal
     ensures { λ r. ⌜ r ≡ wholeAndPart m n (now (w .entry)) (now (f .entry)) ⌝ }
 {
     if is_digits(w, m) & is_digits(f, n) {
-        Decimal::Value(scaled(w, n) + scaled(f, n - f.len()))
+        Decimal::Value(amount_of(scaled(w, n), scaled(f, n - f.len())))
     } else {
         Decimal::Malformed
     }

@@ -7,13 +7,13 @@ use mathlib.Core.List.{List, [], _∷_}
 use lib.Dec.{eqb}
 use Rattle.fields.specs.Forms.{blank, filled}
 
--- places 31 to 41, of the letter of F23 and whether F21 is special and F22 and F25 decimals
-abbrev pub termsJudged : (money21 money24 : Bool) (f21 f22 f23 f24 f25 : List ℕ) (special21 : Bool) (k23 : ℕ) (decimal22 decimal25 : Bool) → List Bool
-termsJudged money21 money24 f21 f22 f23 f24 f25 special21 k23 decimal22 decimal25 =
+-- places 31 to 41, of the letter of F23 and whether F21 is special, F22 a decimal that is not zero and F25 a decimal
+abbrev pub termsJudged : (money21 money24 : Bool) (f21 f22 f23 f24 f25 : List ℕ) (special21 : Bool) (k23 : ℕ) (positive22 decimal25 : Bool) → List Bool
+termsJudged money21 money24 f21 f22 f23 f24 f25 special21 k23 positive22 decimal25 =
     blank f21
     ∷ (filled f21 && not special21 && not money21)
     ∷ blank f22
-    ∷ (filled f22 && not decimal22)
+    ∷ (filled f22 && not positive22)
     ∷ blank f23
     ∷ (filled f23 && not (eqb k23 (code "1") || eqb k23 (code "2") || eqb k23 (code "3") || eqb k23 (code "4")))
     ∷ (money21 && (eqb k23 (code "1") || eqb k23 (code "4")) || special21 && (eqb k23 (code "2") || eqb k23 (code "3")))

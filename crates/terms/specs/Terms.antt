@@ -5,17 +5,21 @@ use mathlib.Core.Bool.{Bool, true, false, _&&_, _||_, not}
 use mathlib.Core.List.{List, [], _∷_}
 use Rattle.decimal.specs.declared.Decimal.{Decimal}
 use Rattle.decimal.specs.declared.Decimal.the-variants.{Value, Malformed}
-use Rattle.decimal.specs.Decimal.{decimalOf}
+use Rattle.decimal.specs.Decimal.{decimalOf, tellsZero}
 use Rattle.tables.specs.Currencies.{isSpecial}
 use Rattle.fields.specs.Forms.{blank, filled, oneOf}
 
 -- the field is Nm,n
 abbrev pub isValue : Decimal → Bool
-isValue (Value x) = true
+isValue (Value a) = true
 isValue Malformed = false
 
 abbrev pub isDecimal : ℕ → ℕ → List ℕ → Bool
 isDecimal m n s = isValue (decimalOf m n s)
+
+-- the field is Nm,n, and its value isn't zero (document 02, Item 4)
+abbrev pub isPositive : ℕ → ℕ → List ℕ → Bool
+isPositive m n s = isDecimal m n s && not (tellsZero (decimalOf m n s))
 
 unfoldable pub termsTests : Bool → Bool → List ℕ → List ℕ → List ℕ → List ℕ → List ℕ → List Bool
 termsTests money21 money24 f21 f22 f23 f24 f25 =
@@ -25,8 +29,8 @@ termsTests money21 money24 f21 f22 f23 f24 f25 =
     ∷ (filled f21 && not (isSpecial f21) && not money21)
     -- 33 0220 F22 blank
     ∷ blank f22
-    -- 34 0221 F22 filled, not N15,4
-    ∷ (filled f22 && not (isDecimal 15 4 f22))
+    -- 34 0221 F22 filled, not N15,4 or zero (document 02, Item 4)
+    ∷ (filled f22 && not (isPositive 15 4 f22))
     -- 35 0230 F23 blank
     ∷ blank f23
     -- 36 0231 F23 filled, not 1 to 4

@@ -1,6 +1,6 @@
 // Places 31 to 51, 59 and 60: currency, quantity and price, the capacity, the terms of a derivative, and the last marks.
 ghost use mathlib.Core.Path.{_≡_};
-ghost use Rattle.terms.specs.Terms.{isDecimal, termsTests};
+ghost use Rattle.terms.specs.Terms.{isDecimal, isPositive, termsTests};
 ghost use Rattle.terms.specs.Capacity.{namesOwn, capacityTests};
 ghost use Rattle.terms.specs.Derivative.{derivativeTests};
 ghost use Rattle.terms.specs.Marks.{markTests};
@@ -12,6 +12,16 @@ fn is_decimal(s: &[u8], m: usize, n: usize) -> bool
 {
     match decimal::read(s, m, n) {
         Decimal::Value(_) => true,
+        Decimal::Malformed => false,
+    }
+}
+
+// Whether s is Nm,n and not zero.
+fn is_positive(s: &[u8], m: usize, n: usize) -> bool
+    ensures { λ r. ⌜ r ≡ isPositive m n (now (s .entry)) ⌝ }
+{
+    match decimal::read(s, m, n) {
+        Decimal::Value(amount) => !amount.zero,
         Decimal::Malformed => false,
     }
 }
@@ -34,7 +44,7 @@ pub fn judge_terms<'a>(
         f21.len() == 0, // 31 0210
         !(f21.len() == 0) & !special & !money21, // 32 0211
         f22.len() == 0, // 33 0220
-        !(f22.len() == 0) & !is_decimal(f22, 15, 4), // 34 0221
+        !(f22.len() == 0) & !is_positive(f22, 15, 4), // 34 0221
         f23.len() == 0, // 35 0230
         !(f23.len() == 0) & !((k == b'1') | (k == b'2') | (k == b'3') | (k == b'4')), // 36 0231
         money21 & ((k == b'1') | (k == b'4')) | special & ((k == b'2') | (k == b'3')), // 37 0232

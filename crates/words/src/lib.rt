@@ -32,7 +32,7 @@ pub fn number(s: &[u8]) -> usize
     ensures { λ r. ⌜ r ≡ numberOf (now (s .entry)) ⌝ }
 {
     match decimal::read(s, 9, 0) {
-        Decimal::Value(n) => n as usize,
+        Decimal::Value(amount) => amount.value as usize,
         Decimal::Malformed => 0,
     }
 }

@@ -4,17 +4,17 @@ use borrow.Author.Needs.{needs}
 use Rattle.calls.proofs.quantity.Statement.{statement}
 use Rattle.calls.proofs.quantity.Tie as tie
 
-enum-known-q : tie.Need-enum-known-q
-enum-known-q c = search needs
+enum-known-amount : tie.Need-enum-known-amount
+enum-known-amount c = search needs
 
 enum-told : tie.Need-enum-told
 enum-told c = search needs
 
 returns : tie.Need-returns
-returns c = ap valueOf (sym (c .before .q .given .1) ∙ (c .before .before .before .read .ensures))
+returns c = ap valueOf (sym (c .before .amount .given .1) ∙ (c .before .before .before .read .ensures))
 
 returns-2 : tie.Need-returns-2
 returns-2 c = ap valueOf (sym (c .enum-told .given .1) ∙ (c .before .before .read .ensures))
 
 pub quantity-spec : {M : Type 1} → statement M
-quantity-spec = tie.close (tie.spec (λ c κs. tt) enum-known-q enum-told returns returns-2)
+quantity-spec = tie.close (tie.spec (λ c κs. tt) enum-known-amount enum-told returns returns-2)

@@ -45,16 +45,19 @@ scaled-requires-2 c κs = let e = part (c .before) in
     let l : length (now (a .f)) ≤ a .n = upto-length _ _ e in
     (omega arith, upto-digits _ _ e)
 
-add-t13 : tie.Need-add-t13
-add-t13 c = let b = c .before .before in
+amount-of-requires : tie.Need-amount-of-requires
+amount-of-requires c κs = let b = c .before .before in
     let a = b .before .before .before .before .before .args in
     let l : length (now (a .f)) ≤ a .n = upto-length _ _ (part b) in
     let k : length (now (a .w)) + a .n ≤ 19 = omega (arith, upto-length (a .m) (now (a .w)) (whole b)) in
     let below = both-below (now (a .w)) (now (a .f)) (a .n) (upto-digits _ _ (whole b)) (upto-digits _ _ (part b)) l in
-    rw (c .before .scaled .ensures, c .scaled2 .ensures) (record { fits = fits-word below k })
+    rw (c .before .scaled .ensures, c .scaled2 .ensures) (fits-word below k)
 
 returns : tie.Need-returns
-returns c = both-yes _ _ _ _ (tests (c .before .before .before) ∙ c .before .before .if1 .taken) (c .before .scaled .ensures) (c .scaled2 .ensures)
+returns c =
+    let sums = c .before in
+    let passed = sums .before .before in
+    both-yes _ _ _ _ (tests (passed .before) ∙ passed .if1 .taken) (sums .before .scaled .ensures) (sums .scaled2 .ensures) (c .amount-of .ensures)
 
 returns-2 : tie.Need-returns-2
 returns-2 c = both-no _ _ _ _ (tests (c .before) ∙ c .if1 .left)
@@ -68,6 +71,6 @@ read-both-spec =
     scaled-requires
     sub-scaled
     scaled-requires-2
-    add-t13
+    amount-of-requires
     returns
     returns-2)

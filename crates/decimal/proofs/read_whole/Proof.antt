@@ -13,11 +13,16 @@ scaled-requires : tie.Need-scaled-requires
 scaled-requires c κs = let e = sym (c .before .is-digits .ensures) ∙ c .if1 .taken in
     (omega (arith, upto-length (c .before .before .before .args .m) (now (c .before .before .before .args .w)) e), upto-digits _ _ e)
 
+amount-of-requires : tie.Need-amount-of-requires
+amount-of-requires c κs = search needs
+
 returns : tie.Need-returns
-returns c = whole-yes _ _ _ (sym (c .before .before .is-digits .ensures) ∙ c .before .if1 .taken) (c .scaled .ensures)
+returns c =
+    let passed = c .before .before in
+    whole-yes _ _ _ (sym (passed .before .is-digits .ensures) ∙ passed .if1 .taken) (c .before .scaled .ensures) (c .amount-of .ensures)
 
 returns-2 : tie.Need-returns-2
 returns-2 c = whole-no _ _ _ (sym (c .before .is-digits .ensures) ∙ c .if1 .left)
 
 pub read-whole-spec : {M : Type 1} → statement M
-read-whole-spec = tie.close (tie.spec is-digits-requires scaled-requires returns returns-2)
+read-whole-spec = tie.close (tie.spec is-digits-requires scaled-requires amount-of-requires returns returns-2)

@@ -14,8 +14,8 @@ returns c =
     termsJudged (a .money21) (a .money24) (now (a .f21)) (now (a .f22)) (now (a .f23)) (now (a .f24)) (now (a .f25))
     (c .before .before .before .is-special .ensures i)
     (c .before .before .letter-of .ensures i)
-    (c .before .is-decimal .ensures i)
-    (c .is-decimal2 .ensures i)
+    (c .before .is-positive .ensures i)
+    (c .is-decimal .ensures i)
 
 pub judge-terms-spec : {M : Type 1} → statement M
 judge-terms-spec = tie.close (tie.spec (λ c κs. tt) (λ c κs. tt) (λ c κs. tt) (λ c κs. tt) returns)

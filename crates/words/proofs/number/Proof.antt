@@ -5,19 +5,19 @@ use Rattle.words.specs.Words.{numberOf}
 use Rattle.words.proofs.number.Statement.{statement}
 use Rattle.words.proofs.number.Tie as tie
 
-enum-known-n : tie.Need-enum-known-n
-enum-known-n c = search needs
+enum-known-amount : tie.Need-enum-known-amount
+enum-known-amount c = search needs
 
 enum-told : tie.Need-enum-told
 enum-told c = search needs
 
 returns : tie.Need-returns
 unfolding numberOf
-returns c = ap valueOf (sym (c .before .n .given .1) ∙ (c .before .before .before .read .ensures))
+returns c = ap valueOf (sym (c .before .amount .given .1) ∙ (c .before .before .before .read .ensures))
 
 returns-2 : tie.Need-returns-2
 unfolding numberOf
 returns-2 c = ap valueOf (sym (c .enum-told .given .1) ∙ (c .before .before .read .ensures))
 
 pub number-spec : {M : Type 1} → statement M
-number-spec = tie.close (tie.spec (λ c κs. tt) enum-known-n enum-told returns returns-2)
+number-spec = tie.close (tie.spec (λ c κs. tt) enum-known-amount enum-told returns returns-2)
