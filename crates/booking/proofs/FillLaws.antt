@@ -9,10 +9,10 @@ use lib.ListN.{length, getD, take, drop, replicate, length-append, length-drop, 
 use lib.Seq.{sets, sets-eq, drop-at, drop-drop, getD-append-add, length-take-le}
 use Rattle.frame.proofs.StoreLaws.{extend}
 use Rattle.text.specs.Number.{lowBytes, numberPut}
-use Rattle.text.proofs.NumberLaws.{low-length}
+use Rattle.text.proofs.NumberLaws.{low-length, put-parts}
 use Rattle.ledger.specs.Row.{rowSize, statePlace, live, numberPlace, numberRoom, quantityPlace, partnerPlace, noPartner, sidePlace}
 use Rattle.booking.specs.Booking.{padded, newRow}
-use Rattle.booking.proofs.RowLaws.{put-parts, padded-length}
+use Rattle.booking.proofs.RowLaws.{padded-length}
 
 -- a byte of the sixteen: of the number, or a zero after it
 pub padded-number : (n : List ℕ) (i : ℕ) → i < length n → getD n i 0 ≡ getD (padded n) i 0

@@ -7,123 +7,69 @@ use mathlib.Core.Bool.{true}
 use mathlib.Core.List.{List, [], _∷_, _++_}
 use borrow.Author.Tests.{le-leb}
 use lib.Dec.{lit<}
-use lib.ListN.{length, getD, take, drop, set, replicate, take-append-drop, length-append, length-drop, length-set, length-replicate}
-use lib.Seq.{getD-set-same, getD-set-other, getD-take, getD-drop, take-at, drop-at}
-use lib.Seq.{take-append-le, drop-append-le, drop-set-lt, drop-drop, length-take-le}
+use lib.ListN.{length, getD, take, drop, set, replicate, length-append, length-set, length-replicate}
+use lib.Seq.{getD-drop, take-at, drop-at, take-take, take-append-le, drop-set-lt, drop-drop}
 use Rattle.text.specs.Class.{isZero}
 use Rattle.text.specs.Bytes.{all}
 use Rattle.text.specs.Number.{lowBytes, numberAt, numberPut}
-use Rattle.text.proofs.NumberLaws.{low-length, little-low, put-length, number-put}
+use Rattle.text.proofs.NumberLaws.{low-length, little-low, put-length, number-put, put-front, put-back}
+use Rattle.text.proofs.ByteLaws.{front-part}
 use Rattle.identifier.specs.Identifier.{nameUpTo}
 use Rattle.ledger.specs.Row.{rowSize, live, cancellation, numberRoom, largestQuantity, noPartner}
 use Rattle.ledger.specs.Row.{statePlace, lengthPlace, numberPlace, quantityPlace, partnerPlace, sidePlace, zerosPlace}
 use Rattle.ledger.specs.Row.{state, numberLength, number, numberPadding, quantity, partner, side, isSide, rowForm}
-use Rattle.ledger.proofs.RowLaws.{Form, form-parts, parts-form, number-short}
+use Rattle.ledger.proofs.RowLaws.{form-parts, parts-form, kept-state, kept-number, kept-form}
 use Rattle.ledger.proofs.SoundLaws.{Relinked}
 use Rattle.booking.specs.Booking.{padded, newRow, relinked}
 
--- a part that ends before a place is the same in what stands before that place
-part-before : (a k m : ℕ) (l : List ℕ) → m ≤ length l → a + k ≤ m → take k (drop a (take m l)) ≡ take k (drop a l)
-part-before a k m l h g =
-    let long : length (take m l) ≡ m = length-take-le m l h in
-    sym (ap (λ (t : List ℕ). take k (drop a t)) (sym (take-append-drop m l))
-    ∙ ap (take k) (drop-append-le a (take m l) (drop m l) (rw long (omega arith)))
-    ∙ take-append-le k (drop a (take m l)) (drop m l) (rw (length-drop, long) (omega arith)))
-
--- what stands before or behind the place where a number is put stays
-module _ (n at x : ℕ) (l : List ℕ) (fits : at + n ≤ length l) where
-  pub put-parts : numberPut n at x l ≡ take at l ++ (lowBytes n x ++ drop n (drop at l))
-  unfolding numberPut
-  put-parts = rw (le-leb _ _ fits)
-
-  front-length : length (take at l) ≡ at
-  front-length = length-take-le at l (omega arith)
-
-  put-front : take at (numberPut n at x l) ≡ take at l
-  put-front = rw put-parts (take-at (take at l) _ at front-length)
-
-  put-back : drop (at + n) (numberPut n at x l) ≡ drop (at + n) l
-  put-back =
-      sym (drop-drop n at _)
-      ∙ rw (put-parts, drop-at (take at l) (lowBytes n x ++ drop n (drop at l)) at front-length)
-      (drop-at (lowBytes n x) (drop n (drop at l)) n (low-length n x) ∙ drop-drop n at l)
-
 -- a row with another state and partner
 module _ (s p : ℕ) (w : List ℕ) (sized : length w ≡ rowSize) where
-  stated-length : length (set w statePlace s) ≡ rowSize
+  abbrev stated : List ℕ
+  stated = set w statePlace s
+
+  stated-length : length stated ≡ rowSize
   stated-length = length-set w statePlace s ∙ sized
 
   pub relinked-length : length (relinked s p w) ≡ rowSize
   unfolding relinked
-  relinked-length = put-length 2 partnerPlace p (set w statePlace s) ∙ stated-length
+  relinked-length = put-length 2 partnerPlace p stated ∙ stated-length
 
-  partner-fits : partnerPlace + 2 ≤ length (set w statePlace s)
+  partner-fits : partnerPlace + 2 ≤ length stated
   partner-fits = omega (arith, stated-length)
 
-  before-partner : take partnerPlace (relinked s p w) ≡ take partnerPlace (set w statePlace s)
+  before-partner : take partnerPlace (relinked s p w) ≡ take partnerPlace stated
   unfolding relinked
-  before-partner = put-front 2 partnerPlace p (set w statePlace s) partner-fits
+  before-partner = put-front 2 partnerPlace p stated partner-fits
 
-  byte-kept : (i : ℕ) → i < partnerPlace → getD (relinked s p w) i 0 ≡ getD (set w statePlace s) i 0
-  byte-kept i h =
-      sym (getD-take partnerPlace (relinked s p w) i 0 h)
-      ∙ ap (λ (l : List ℕ). getD l i 0) before-partner
-      ∙ getD-take partnerPlace (set w statePlace s) i 0 h
-
-  part-kept : (a k : ℕ) → 0 < a → a + k ≤ partnerPlace → take k (drop a (relinked s p w)) ≡ take k (drop a w)
-  part-kept a k pos h =
-      sym (part-before a k partnerPlace (relinked s p w) (omega (arith, relinked-length)) h)
-      ∙ ap (λ (l : List ℕ). take k (drop a l)) before-partner
-      ∙ part-before a k partnerPlace (set w statePlace s) (omega (arith, stated-length)) h
-      ∙ ap (take k) (drop-set-lt a w statePlace s pos)
+  before-quantity : take quantityPlace (relinked s p w) ≡ take quantityPlace stated
+  before-quantity =
+      sym (take-take quantityPlace partnerPlace (relinked s p w) (omega arith)) ∙ ap (take quantityPlace) before-partner
+      ∙ take-take quantityPlace partnerPlace stated (omega arith)
 
   rest-kept : drop sidePlace (relinked s p w) ≡ drop sidePlace w
   unfolding relinked
-  rest-kept = put-back 2 partnerPlace p (set w statePlace s) partner-fits ∙ drop-set-lt sidePlace w statePlace s (omega arith)
-
-  relinked-state : state (relinked s p w) ≡ s
-  relinked-state = byte-kept statePlace (omega arith) ∙ getD-set-same w statePlace s 0 (omega arith)
+  rest-kept = put-back 2 partnerPlace p stated partner-fits ∙ drop-set-lt sidePlace w statePlace s (omega arith)
 
   relinked-partner : p < 256 ^ 2 → partner (relinked s p w) ≡ p
   unfolding relinked
-  relinked-partner h = number-put 2 partnerPlace p (set w statePlace s) partner-fits h
-
-  same-number-length : numberLength (relinked s p w) ≡ numberLength w
-  same-number-length = byte-kept lengthPlace (omega arith) ∙ getD-set-other w statePlace lengthPlace s 0 (omega arith)
-
-  same-number : numberLength w ≤ numberRoom → number (relinked s p w) ≡ number w
-  same-number h = rw same-number-length (part-kept numberPlace (numberLength w) (omega arith) (omega arith))
-
-  same-padding : numberPadding (relinked s p w) ≡ numberPadding w
-  same-padding = rw (same-number-length, part-kept numberPlace numberRoom (omega arith) (omega arith))
+  relinked-partner h = number-put 2 partnerPlace p stated partner-fits h
 
   same-quantity : quantity (relinked s p w) ≡ quantity w
   unfolding numberAt
-  same-quantity = rw (relinked-length, sized, part-kept quantityPlace 8 (omega arith) (omega arith))
-
-  same-side : side (relinked s p w) ≡ side w
-  same-side = sym (getD-drop sidePlace (relinked s p w) 0 0) ∙ ap (λ (l : List ℕ). getD l 0 0) rest-kept ∙ getD-drop sidePlace w 0 0
-
-  same-zeros : drop zerosPlace (relinked s p w) ≡ drop zerosPlace w
-  same-zeros = sym (drop-drop 1 sidePlace (relinked s p w)) ∙ ap (drop 1) rest-kept ∙ drop-drop 1 sidePlace w
+  same-quantity =
+      rw (
+        relinked-length,
+        sized,
+        front-part partnerPlace (relinked s p w) stated before-partner quantityPlace 8 (omega arith) (omega (arith, relinked-length)) (omega (arith, stated-length)),
+        drop-set-lt quantityPlace w statePlace s (omega arith),
+      )
 
   pub relinked-row : rowForm w ≡ true → live ≤ s → s ≤ cancellation → p < 256 ^ 2 → Relinked s p w (relinked s p w)
   relinked-row h taken known small =
-      let F : Form w = form-parts w h in
-      let named : number (relinked s p w) ≡ number w = same-number (number-short w sized h) in
       record {
-        form = parts-form (relinked s p w)
-            (record {
-              taken = rw relinked-state taken;
-              known = rw relinked-state known;
-              named = rw named (F .named);
-              padded = rw same-padding (F .padded);
-              bounded = rw same-quantity (F .bounded);
-              sided = rw same-side (F .sided);
-              zeros = rw same-zeros (F .zeros);
-            });
-        named = named;
-        stated = relinked-state;
+        form = kept-form s (relinked s p w) w relinked-length sized before-quantity rest-kept h taken known (rw same-quantity (form-parts w h .bounded));
+        named = kept-number s (relinked s p w) w relinked-length sized before-quantity rest-kept h;
+        stated = kept-state s (relinked s p w) w relinked-length sized before-quantity rest-kept;
         pointing = relinked-partner small;
       }
 

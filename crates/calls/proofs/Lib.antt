@@ -1,6 +1,7 @@
 pub mod CallLaws
 pub mod StepLaws
 pub mod Demand3
+pub mod Quantities
 pub mod ListLaws
 pub mod RecordLaws
 pub mod ReadingLaws

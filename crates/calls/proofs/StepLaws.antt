@@ -23,7 +23,7 @@ use Rattle.calls.proofs.CallLaws.{failuresTo60}
 
 module _ (tables : Tables) (row : ℕ) (s c : List ℕ) where
   -- a step without failure has none at places 7 to 60, and none at 61 to 63
-  step-passed : isEmpty (stepFailures tables row s c) ≡ true
+  pub step-passed : isEmpty (stepFailures tables row s c) ≡ true
       → (isEmpty (failuresTo60 tables row s) ≡ true) × (isEmpty (bookingOf c (fieldOf s 16) (fieldOf s 39) .failed) ≡ true)
   unfolding stepFailures failuresFrom7
   step-passed = go (isEmpty (failuresTo60 tables row s)) refl

@@ -1,5 +1,5 @@
--- Worked inputs of document 01, through the calls: R1 and R5 called singly on the all-zero ledger, a future of document 02, Item 2, likewise, and files
--- of the bodies of one and of two CR LF.
+-- Worked inputs of document 01, through the calls: R1 and R5 called singly on the all-zero ledger, a future of document 02, Item 2, and the zeros of Item
+-- 4 likewise, and files of the bodies of one and of two CR LF.
 -- Assumes nothing.
 use Prim.Native.Nat.{ℕ, _≤_}
 use native.Mathlib.Omega.{arith}
@@ -60,7 +60,8 @@ use Rattle.calls.specs.Rules.{rules}
 use Rattle.calls.specs.Demand3.{CallsIsolated}
 use Rattle.calls.specs.Filing.{reportCalls, openedReading, readingOf, answersIn, fileOutcome, carriedOut, fileOf}
 use Rattle.calls.specs.Worked.{workedReporters, workedCurrencies, workedTables, workedSender, emptyLedger}
-use Rattle.calls.specs.Worked.{bookedAnswer, r1Answer, r5Answer, future, futureAnswer, r1Row, r1Compartment, blankAnswer, workedFile}
+use Rattle.calls.specs.Worked.{bookedAnswer, r1Answer, r5Answer, future, futureAnswer, zeroQuantity, zeroQuantityAnswer, zeroTerms, zeroTermsAnswer}
+use Rattle.calls.specs.Worked.{r1Row, r1Compartment, blankAnswer, workedFile}
 use Rattle.calls.proofs.CallLaws.{call-passes, accepted-call}
 use Rattle.calls.proofs.Demand3.{demand3}
 use Rattle.calls.proofs.ReadingLaws.{lent-none, reading-on}
@@ -128,9 +129,14 @@ on-zeros s e =
     })
     ∙ (λ i. record { reply = accepted (e i .2); store = put compartmentSize 0 (e i .3) emptyLedger })
 
-steps : map computed (r1 ∷ r5 ∷ future ∷ [])
-    ≡ (true, 0, r1Answer, r1Compartment) ∷ (true, 0, r5Answer, zeros) ∷ (true, 0, futureAnswer, r1Compartment) ∷ []
-unfolding workedRecord workedReporters workedCurrencies bookedAnswer r5Answer future r1Row recordForm checkedOf senderCheck senderTests reporterTests
+steps : map computed (r1 ∷ r5 ∷ future ∷ zeroQuantity ∷ zeroTerms ∷ [])
+    ≡ (true, 0, r1Answer, r1Compartment)
+    ∷ (true, 0, r5Answer, zeros)
+    ∷ (true, 0, futureAnswer, r1Compartment)
+    ∷ (true, 0, zeroQuantityAnswer, zeros)
+    ∷ (true, 0, zeroTermsAnswer, r1Compartment)
+    ∷ []
+unfolding workedRecord workedReporters workedCurrencies bookedAnswer r5Answer future zeroQuantity zeroQuantityAnswer zeroTerms r1Row recordForm checkedOf senderCheck senderTests reporterTests
     reporterRow rowByCode rowByAddress hasMailbox mailboxOf least part put all same positionOf decimalOf decimalAt wholeOnly wholeAndPart digitsUpTo
     digitsValueAfter digitsExactly realDate realDay daysIn realSecond bankCode swiftForm completed sameAddress nameUpTo isinForm letterValue digitsOf digits
     weighted digitSum checkDigitRight holds isEmpty added addedFrom codes codeAt isWhole semicolonsFrom fieldStart fieldEnd fieldPlace fieldOf letter hasCode
@@ -141,21 +147,31 @@ unfolding workedRecord workedReporters workedCurrencies bookedAnswer r5Answer fu
 steps = refl
 
 -- R1 is booked in row 0 of compartment 0, and the rest of the ledger stays; R5 is answered with its set, and nothing is booked; a future with 0,125000 as
--- contract size is booked as R1 is
+-- contract size is booked as R1 is. R1 with the quantity 0,0000 fails at place 34 alone; an option with zero at places 41, 50 and 51 is booked
 pub worked :
-    map (λ r. single (rules workedTables) (called workedSender r) emptyLedger) (r1 ∷ r5 ∷ future ∷ [])
+    map (λ r. single (rules workedTables) (called workedSender r) emptyLedger) (r1 ∷ r5 ∷ future ∷ zeroQuantity ∷ zeroTerms ∷ [])
     ≡ record { reply = accepted r1Answer; store = put compartmentSize 0 r1Compartment emptyLedger }
     ∷ record { reply = accepted r5Answer; store = emptyLedger }
     ∷ record { reply = accepted futureAnswer; store = put compartmentSize 0 r1Compartment emptyLedger }
+    ∷ record { reply = accepted zeroQuantityAnswer; store = emptyLedger }
+    ∷ record { reply = accepted zeroTermsAnswer; store = put compartmentSize 0 r1Compartment emptyLedger }
     ∷ []
-worked = λ i.
+worked =
+    let rest = tail-eq-of-cons-eq steps in
+    let last = tail-eq-of-cons-eq (tail-eq-of-cons-eq rest) in
+    λ i.
     on-zeros r1 (head-eq-of-cons-eq steps) i
-    ∷ (on-zeros r5 (second steps) ∙ (λ j. record { reply = accepted r5Answer; store = kept j })) i
-    ∷ on-zeros future (second (tail-eq-of-cons-eq steps)) i
+    ∷ not-booked r5 (second steps) i
+    ∷ on-zeros future (second rest) i
+    ∷ not-booked zeroQuantity (head-eq-of-cons-eq last) i
+    ∷ on-zeros zeroTerms (second last) i
     ∷ []
   where
     kept : put compartmentSize 0 zeros emptyLedger ≡ emptyLedger
     kept = ap (λ (c : List ℕ). put compartmentSize 0 c emptyLedger) (sym zeros-part) ∙ put-own compartmentSize 0 emptyLedger
+
+    not-booked : (s : List ℕ) {answer : List ℕ} → computed s ≡ (true, 0, answer, zeros) → calledAlone s ≡ record { reply = accepted answer; store = emptyLedger }
+    not-booked s {answer} e = on-zeros s e ∙ (λ j. record { reply = accepted answer; store = kept j })
 
 -- what the envelope of a file of either body comes to: no call; one call, of an empty record
 module _ (room : ℕ) (one : answerSize ≤ room) where

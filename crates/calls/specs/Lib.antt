@@ -1,6 +1,7 @@
 pub mod Call
 pub mod Rules
 pub mod Demand3
+pub mod Quantities
 pub mod Replied
 pub mod Filing
 pub mod FileSteps

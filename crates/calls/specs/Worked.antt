@@ -1,4 +1,4 @@
--- "Worked inputs" of document 01: its tables, its sender, the all-zero ledger, and a report file round a body; and a record of document 02, Item 2.
+-- "Worked inputs" of document 01: its tables, its sender, the all-zero ledger, and a report file round a body; and records of document 02, Items 2 and 4.
 -- Assumes nothing.
 use Prim.Native.Nat.{ℕ, _-_}
 use Prim.Native.Char.{code}
@@ -50,7 +50,23 @@ future =
 abbrev pub futureAnswer : List ℕ
 futureAnswer = bookedAnswer 124
 
--- the row that R1 is booked in, and the future too: live, a number of two bytes, A1, 1,500 in ten-thousandths, no partner, B
+-- "A member sent 0,0000 as quantity" (document 02, Item 4): R1 with it; and the answer: the set 17,179,869,184 (place 34), code 221, row 0, status 2,
+-- no new row, 104 bytes
+unfoldable pub zeroQuantity : List ℕ
+zeroQuantity = bytes "B;98001;I;4711;;;B;20130903;101500;;;;;WBAH;J;;;N;S;AT0000831706;XXX;0,0000;1;EUR;54,7;;;K;;;;;;;;;;N;A1"
+
+unfoldable pub zeroQuantityAnswer : List ℕ
+zeroQuantityAnswer = lowBytes 8 17_179_869_184 ++ (0xDD ∷ 0 ∷ 0 ∷ 2 ∷ 255 ∷ 255 ∷ 104 ∷ 0 ∷ [])
+
+-- "places 41, 50 and 51 still take zero": R1 as an option of XXK with zero as price, contract size and strike price; and the answer to it
+unfoldable pub zeroTerms : List ℕ
+zeroTerms =
+    bytes "B;98001;I;4711;;;B;20130903;101500;;;;;WBAH;J;;;N;S;AT0000831706;XXK;1500;1;EUR;0,0000;;;K;C;0;;000,0;SAT0000831706;;;;;N;A1"
+
+abbrev pub zeroTermsAnswer : List ℕ
+zeroTermsAnswer = bookedAnswer 124
+
+-- the row that R1 is booked in, and the future and the option too: live, a number of two bytes, A1, 1,500 in ten-thousandths, no partner, B
 unfoldable pub r1Row : List ℕ
 r1Row = 1 ∷ 2 ∷ bytes "A1" ++ (replicate 14 0 ++ (lowBytes 8 15_000_000 ++ (255 ∷ 255 ∷ code "B" ∷ 0 ∷ 0 ∷ 0 ∷ [])))
 

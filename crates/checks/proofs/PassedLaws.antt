@@ -2,10 +2,10 @@
 -- Assumes nothing.
 use Prim.Native.Nat.{ℕ, _+_, _≤_, _<_}
 use native.Mathlib.Omega.{arith}
-use mathlib.Core.Bool.{Bool, true, false, cond}
+use mathlib.Core.Bool.{Bool, true, false, _&&_, not, cond, false≢true}
 use mathlib.Core.List.{List, _++_}
 use mathlib.Core.Path.{_≡_, refl, sym, _∙_, subst}
-use borrow.Author.Tests.{ltb-true, ltb-false, not-false}
+use borrow.Author.Tests.{ltb-true, ltb-false, not-true, not-false}
 use lib.Dec.{eqb}
 use lib.ListN.{length, getD}
 use lib.Seq.{getD-append-add}
@@ -14,7 +14,7 @@ use Rattle.frame.proofs.LeastLaws.{least-le}
 use Rattle.identifier.specs.Identifier.{nameUpTo}
 use Rattle.failures.specs.Failures.{isEmpty}
 use Rattle.failures.proofs.FailureLaws.{none-failed}
-use Rattle.fields.specs.Forms.{blank, letter}
+use Rattle.fields.specs.Forms.{blank, filled, letter}
 use Rattle.ledger.specs.Row.{live, numberRoom, state, isSide}
 use Rattle.ledger.specs.Sound.{rowCount, compartmentSize, rowsOf}
 use Rattle.ledger.specs.Lookup.{hasNumber, freeRow, rowByNumber, liveRow}
@@ -22,7 +22,11 @@ use Rattle.ledger.proofs.SoundLaws.{live-row-live}
 use Rattle.client.specs.Client.{clientTests}
 use Rattle.trade.specs.Trade.{tradeTests}
 use Rattle.trade.specs.Instrument.{instrumentTests}
-use Rattle.terms.specs.Terms.{termsTests}
+use Rattle.decimal.specs.declared.Decimal.{Decimal}
+use Rattle.decimal.specs.declared.Decimal.the-variants.{Value, Malformed}
+use Rattle.decimal.specs.Decimal.{decimalOf, valueOf, tellsZero}
+use Rattle.decimal.proofs.ZeroLaws.{above-zero}
+use Rattle.terms.specs.Terms.{isValue, isPositive, termsTests}
 use Rattle.terms.specs.Capacity.{capacityTests}
 use Rattle.terms.specs.Derivative.{derivativeTests}
 use Rattle.terms.specs.Marks.{markTests}
@@ -36,6 +40,14 @@ use Rattle.checks.proofs.RecordLaws.{underlying-length, record-length}
 behind : (ts us : List Bool) (n k : ℕ) → length ts ≡ n → getD (ts ++ us) (n + k) false ≡ getD us k false
 behind ts us n k e = subst (λ (m : ℕ). getD (ts ++ us) (m + k) false ≡ getD us k false) e (getD-append-add ts us k false)
 
+-- a field that is filled, and Nm,n and not zero where it is filled, has a value above zero
+filled-positive : (s : List ℕ) → blank s ≡ false → filled s && not (isPositive 15 4 s) ≡ false → 0 < valueOf (decimalOf 15 4 s)
+filled-positive s p q = go (decimalOf 15 4 s) refl (rw p at q)
+  where
+    go : (d : Decimal) → decimalOf 15 4 s ≡ d → not (isValue d && not (tellsZero d)) ≡ false → 0 < valueOf d
+    go (Value a) e h = above-zero 15 4 s e (not-true _ (not-false _ h))
+    go Malformed e h = absurd (false≢true (sym h))
+
 module _ (reporters : List ℕ) (money : List ℕ → Bool) (row : ℕ) (F : ℕ → List ℕ) (passed : isEmpty (recordFailures reporters money row F) ≡ true) where
   -- none of places 7 to 60 fails
   none : (k : ℕ) → getD (recordTests reporters money row F) k false ≡ false
@@ -46,6 +58,11 @@ module _ (reporters : List ℕ) (money : List ℕ → Bool) (row : ℕ) (F : ℕ
   pub side-passed : isSide (letter (F 7)) ≡ true
   unfolding recordTests clientGroup clientTests tradeGroup tradeTests
   side-passed = not-false _ (none 11)
+
+  -- 33 and 34 passed: F22 is N15,4 and not zero
+  pub quantity-passed : 0 < valueOf (decimalOf 15 4 (F 22))
+  unfolding recordTests clientGroup tradeGroup instrumentGroup termsGroup clientTests tradeTests instrumentTests termsTests
+  quantity-passed = filled-positive (F 22) (none 26) (none 27)
 
   -- 60 passed: F39 is 1 to 16 capitals or digits
   pub number-passed : nameUpTo numberRoom (F 39) ≡ true

@@ -2,19 +2,20 @@
 -- Assumes nothing.
 use Prim.Native.Nat.{ℕ, zero, suc, _+_, _-_, _*_, _^_, _<_, _≤_}
 use Prim.Native.Char.{code}
-use mathlib.Core.Bool.{Bool, true, false, _&&_, cond}
+use mathlib.Core.Bool.{true, false, _&&_}
 use mathlib.Core.List.{List, [], _∷_}
-use mathlib.Core.Path.{_≡_, refl, ap, sym, _∙_}
+use mathlib.Core.Logic.{_≢_}
+use mathlib.Core.Path.{_≡_, refl, sym, _∙_}
 use native.Mathlib.Nat.{zero-add, suc-add, zero-mul, mul-pos, one-le-pow}
 use native.Mathlib.Decide.{ℕ-discrete}
 use native.Mathlib.Omega.{arith}
-use borrow.Author.Tests.{eqb-true, ne-eqb}
+use borrow.Author.Tests.{eqb-false, ne-eqb}
 use lib.Dec.{lit<, eqb, eqb·suc-zero}
 use lib.ListN.{length, take, drop}
 use Rattle.frame.proofs.BoolLaws.{and-left, and-right, and-true, and-assoc}
 use Rattle.text.specs.Class.{isDigit}
 use Rattle.text.specs.Bytes.{all, positionOf}
-use Rattle.text.proofs.ByteLaws.{digit-low}
+use Rattle.text.proofs.ByteLaws.{all-around, digit-low}
 use Rattle.decimal.specs.Decimal.{digitsValueAfter, digitsValue, digitsUpTo, decimalOf, everyDigitZero}
 use Rattle.decimal.specs.declared.Amount.{Amount}
 use Rattle.decimal.specs.declared.Decimal.the-variants.{Value}
@@ -23,6 +24,10 @@ use Rattle.decimal.proofs.DecimalLaws.{bothValue, by-form, upto-digits}
 -- The reader tells of every value whether it is zero.
 pub zero-told : (m n : ℕ) (s : List ℕ) {a : Amount} → decimalOf m n s ≡ Value a → a .zero ≡ eqb (a .value) 0
 zero-told m n s = by-form m n s (λ b. b .zero ≡ eqb (b .value) 0) (λ e. refl) (λ k at h p q. refl)
+
+-- a value that is told not to be zero is above it
+pub above-zero : (m n : ℕ) (s : List ℕ) {a : Amount} → decimalOf m n s ≡ Value a → a .zero ≡ false → 0 < a .value
+above-zero m n s {a} e told = let some : a .value ≢ 0 = eqb-false _ _ (sym (zero-told m n s e) ∙ told) in omega arith
 
 -- when sums and multiples are zero
 sum-zero : (x y : ℕ) → eqb (x + y) 0 ≡ eqb x 0 && eqb y 0
@@ -58,25 +63,11 @@ digits-zero v (b ∷ s) e =
 scaled-zero : (s : List ℕ) (n : ℕ) → all isDigit s ≡ true → eqb (digitsValue s * 10 ^ n) 0 ≡ everyDigitZero s
 scaled-zero s n e = times-zero (digitsValue s) (10 ^ n) (one-le-pow n 10 (lit< tt)) ∙ digits-zero 0 s e
 
--- the two sides of the first byte b, where b itself passes
-around : (p : ℕ → Bool) (b : ℕ) → p b ≡ true → (s : List ℕ) → positionOf b s < length s
-    → all p (take (positionOf b s) s) && all p (drop (positionOf b s + 1) s) ≡ all p s
-unfolding all positionOf
-around p b passes [] h = absurd (omega arith)
-around p b passes (x ∷ s) h = go (eqb x b) refl h (around p b passes s)
-  where
-    k : ℕ
-    k = positionOf b s
-
-    go : (q : Bool) → eqb x b ≡ q → cond q 0 (suc k) < suc (length s) → (k < length s → all p (take k s) && all p (drop (k + 1) s) ≡ all p s)
-        → all p (take (cond q 0 (suc k)) (x ∷ s)) && all p (drop (cond q 0 (suc k) + 1) (x ∷ s)) ≡ p x && all p s
-    go true e l next = rw (eqb-true x b e, passes) refl
-    go false e l next = rw suc-add (sym (and-assoc (p x) _ _) ∙ ap (λ (q : Bool). p x && q) (next (omega arith)))
-
+-- the digits of a text are those on both sides of its comma
 comma-sides : (k : ℕ) (s : List ℕ) → k ≡ positionOf (code ",") s → k < length s
     → everyDigitZero (take k s) && everyDigitZero (drop (k + 1) s) ≡ everyDigitZero s
 unfolding everyDigitZero
-comma-sides k s at h = rw at (around _ (code ",") refl s (rw at at h))
+comma-sides k s at h = rw at (all-around _ (code ",") refl s (rw at at h))
 
 -- The reader tells zero exactly where every digit is 0.
 pub zero-digits : (m n : ℕ) (s : List ℕ) {a : Amount} → decimalOf m n s ≡ Value a → a .zero ≡ everyDigitZero s

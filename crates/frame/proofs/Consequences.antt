@@ -5,24 +5,32 @@ use mathlib.Core.Path.{_≡_, refl, ap, sym, _∙_}
 use mathlib.Core.Bool.{Bool, true, false, cond}
 use mathlib.Core.List.{List, [], _∷_, _++_}
 use mathlib.Core.Logic.{_≢_}
-use lib.Dec.{eqb}
-use borrow.Author.Tests.{eqb-true, le-ltb}
+use native.Mathlib.Omega.{arith}
+use lib.Dec.{eqb, ltb}
+use borrow.Author.Tests.{eqb-true, ltb-true}
+use Rattle.frame.specs.Reply.{accepted}
 use Rattle.frame.specs.Isolation.{Rules, Lawful, act, single, replies, storeAfter, answersFor}
 use Rattle.frame.specs.Isolation.{isStep, steps, loneAnswers, loneState}
 use Rattle.frame.proofs.BoolLaws.{and-right}
 use Rattle.frame.proofs.Isolation.{isolation, after-in-order}
 
 module _ (R : Rules) where
-  open Rules R using (Call, Store, banks, flaw, refusal, bank)
+  open Rules R using (Call, Store, banks, own, flaw, refusal, bank, judge)
 
-  -- a call whose record passes for no bank is answered alike on any two stores in order
-  pub stranger-blind : (c : Call) (s t : Store) → flaw s ≡ 0 → flaw t ≡ 0 → banks ≤ bank c → single R c s .reply ≡ single R c t .reply
+  -- two stores in order whose parts give the bank of a call the same answer give it the same reply
+  pub same-reply : (c : Call) (s t : Store) → flaw s ≡ 0 → flaw t ≡ 0 → (bank c < banks → judge c (own (bank c) s) ≡ judge c (own (bank c) t))
+      → single R c s .reply ≡ single R c t .reply
   unfolding single
-  stranger-blind c s t h k none = rw (h, k, le-ltb (bank c) banks none) (same (refusal c 0) (eqb (refusal c 0) 0))
+  same-reply c s t h k alike = rw (h, k) (go (refusal c 0) (eqb (refusal c 0) 0) (ltb (bank c) banks) refl)
     where
-      same : (n : ℕ) (f : Bool) → act R c s n f false .reply ≡ act R c t n f false .reply
-      same n true = refl
-      same n false = refl
+      go : (n : ℕ) (f b : Bool) → ltb (bank c) banks ≡ b → act R c s n f b .reply ≡ act R c t n f b .reply
+      go n true true e = ap accepted (alike (ltb-true _ _ e))
+      go n true false e = refl
+      go n false b e = refl
+
+  -- a call whose record passes for no bank is answered alike on any two of them
+  pub stranger-blind : (c : Call) (s t : Store) → flaw s ≡ 0 → flaw t ≡ 0 → banks ≤ bank c → single R c s .reply ≡ single R c t .reply
+  stranger-blind c s t h k none = same-reply c s t h k (λ inside. absurd (omega arith))
 
   -- two lists in a row: what they leave and answer
   pub after-append : (bs cs : List Call) (s : Store) → storeAfter R (bs ++ cs) s ≡ storeAfter R cs (storeAfter R bs s)

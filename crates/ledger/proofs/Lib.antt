@@ -6,3 +6,4 @@ pub mod SoundLaws
 pub mod SlotLaws
 pub mod EmptyLaws
 pub mod LedgerLaws
+pub mod QuantityLaws

@@ -2,3 +2,4 @@ pub mod Row
 pub mod Sound
 pub mod Lookup
 pub mod Slots
+pub mod Quantity

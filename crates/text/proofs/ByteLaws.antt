@@ -4,14 +4,14 @@ use Prim.Native.Nat.{ℕ, zero, suc, _+_, _-_, _*_, _<_, _≤_, zero-le, suc-le-
 use mathlib.Core.Bool.{Bool, true, false, _&&_, cond, false≢true}
 use mathlib.Core.List.{List, [], _∷_, _++_}
 use mathlib.Core.Path.{_≡_, refl, ap, sym, _∙_}
-use native.Mathlib.Nat.{not-suc-le-zero, le-of-suc-le-suc, le-of-eq, zero-mul, suc-mul}
+use native.Mathlib.Nat.{not-suc-le-zero, le-of-suc-le-suc, le-of-eq, suc-add, zero-mul, suc-mul}
 use native.Mathlib.Numerals.{add-one}
 use native.Mathlib.Omega.{arith}
 use borrow.Author.Tests.{eq-eqb, ne-eqb, eqb-true, eqb-false, leb-true}
 use lib.Bits.{bitOr, or-zero-l, or-add-and, and-le-r}
 use lib.Dec.{eqb, leb, ltb}
 use lib.ListN.{length, getD, take, drop, length-take, length-drop, drop-of-length-le, take-append-drop}
-use lib.Seq.{drop-cons, drop-drop, take-suc, take-all, take-add}
+use lib.Seq.{drop-cons, drop-drop, drop-at, take-suc, take-all, take-add, take-take, getD-take, length-take-le}
 use Rattle.frame.specs.Every.{every}
 use Rattle.frame.specs.Parts.{part}
 use Rattle.frame.proofs.BoolLaws.{and-left, and-right, and-intro, and-false, and-true, and-assoc}
@@ -120,6 +120,21 @@ position-le b (x ∷ xs) = at (eqb x b) (position-le b xs)
     at true h = zero-le
     at false h = suc-le-suc h
 
+-- a text passes where both sides of the first byte b do, and b itself
+pub all-around : (p : ℕ → Bool) (b : ℕ) → p b ≡ true → (s : List ℕ) → positionOf b s < length s
+    → all p (take (positionOf b s) s) && all p (drop (positionOf b s + 1) s) ≡ all p s
+unfolding all positionOf
+all-around p b passes [] h = absurd (not-suc-le-zero h)
+all-around p b passes (x ∷ s) h = go (eqb x b) refl h (all-around p b passes s)
+  where
+    k : ℕ
+    k = positionOf b s
+
+    go : (q : Bool) → eqb x b ≡ q → cond q 0 (suc k) < suc (length s) → (k < length s → all p (take k s) && all p (drop (k + 1) s) ≡ all p s)
+        → all p (take (cond q 0 (suc k)) (x ∷ s)) && all p (drop (cond q 0 (suc k) + 1) (x ∷ s)) ≡ p x && all p s
+    go true e l rest = rw (eqb-true x b e, passes) refl
+    go false e l rest = rw suc-add (sym (and-assoc (p x) _ _) ∙ ap (λ (q : Bool). p x && q) (rest (omega arith)))
+
 -- what every byte passes, the byte at i passes
 pub all-get : (p : ℕ → Bool) (s : List ℕ) (i : ℕ) → all p s ≡ true → i < length s → p (getD s i 0) ≡ true
 unfolding all
@@ -195,3 +210,15 @@ same-split (x ∷ a) b (y ∷ s) h = sym (and-assoc (eqb x y) _ _) ∙ ap (λ (t
 -- what `&s[a..]` holds
 pub take-rest : (a : ℕ) (s : List ℕ) → take (length s - a) (drop a s) ≡ drop a s
 take-rest a s = take-all _ _ (le-of-eq (length-drop a s))
+
+-- two texts that begin alike up to a place have the same bytes and the same parts before it
+module _ (m : ℕ) (s t : List ℕ) (e : take m s ≡ take m t) where
+  pub front-byte : (i : ℕ) → i < m → getD s i 0 ≡ getD t i 0
+  front-byte i h = sym (getD-take m s i 0 h) ∙ ap (λ (l : List ℕ). getD l i 0) e ∙ getD-take m t i 0 h
+
+  pub front-part : (a k : ℕ) → a + k ≤ m → a ≤ length s → a ≤ length t → take k (drop a s) ≡ take k (drop a t)
+  front-part a k h ls lt =
+      part-of s ls ∙ ap (drop a) (sym (take-take (a + k) m s h) ∙ ap (take (a + k)) e ∙ take-take (a + k) m t h) ∙ sym (part-of t lt)
+    where
+      part-of : (l : List ℕ) → a ≤ length l → take k (drop a l) ≡ drop a (take (a + k) l)
+      part-of l h = sym (ap (drop a) (take-add a k l) ∙ drop-at (take a l) (take k (drop a l)) a (length-take-le a l h))

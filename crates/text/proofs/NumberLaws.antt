@@ -109,3 +109,21 @@ unfolding numberAt
 number-put n at x s h b =
     let l : at + n ≤ length (numberPut n at x s) = rw put-length h in
     rw (le-leb _ _ l) (ap littleEndian (put-bytes n at x s h) ∙ little-low n x b)
+
+-- what stands before or behind the place where a number is put stays
+module _ (n at x : ℕ) (s : List ℕ) (fits : at + n ≤ length s) where
+  pub put-parts : numberPut n at x s ≡ take at s ++ (lowBytes n x ++ drop n (drop at s))
+  unfolding numberPut
+  put-parts = rw (le-leb _ _ fits)
+
+  front-length : length (take at s) ≡ at
+  front-length = length-take-le at s (omega arith)
+
+  pub put-front : take at (numberPut n at x s) ≡ take at s
+  put-front = rw put-parts (take-at (take at s) _ at front-length)
+
+  pub put-back : drop (at + n) (numberPut n at x s) ≡ drop (at + n) s
+  put-back =
+      sym (drop-drop n at _)
+      ∙ rw (put-parts, drop-at (take at s) (lowBytes n x ++ drop n (drop at s)) at front-length)
+      (drop-at (lowBytes n x) (drop n (drop at s)) n (low-length n x) ∙ drop-drop n at s)
