@@ -2,8 +2,8 @@
 //! leave is compared. Seeds are fixed, so each run makes the same cases.
 //!
 //! The last line printed is `N passed, M failed`; what is counted are groups of up to 1,000 cases,
-//! and one for each place, each refusal, each sight of an error file and each last digit of a sum
-//! that has to be hit.
+//! and one for each place, each refusal, each sight of an error file, each last digit of a sum and
+//! each sight of a zero that has to be hit.
 
 mod compare;
 mod damage;
@@ -19,6 +19,7 @@ mod sums;
 mod tally;
 mod values;
 mod world;
+mod zeros;
 
 use std::process::ExitCode;
 
@@ -65,6 +66,8 @@ fn main() -> ExitCode {
     sums::drawn(&mut check, &mut Rng::new(29), 20_000, 40);
     sums::any_bytes(&mut check, &mut Rng::new(30), 20_000);
     nulls::sum(&mut check);
+    zeros::every_zero(&mut check, &mut Rng::new(31), 4);
+    zeros::stored(&mut check, &mut Rng::new(32), 4_000);
 
     let (passed, failed) = check.report();
     println!("{passed} passed, {failed} failed");

@@ -122,8 +122,11 @@ pub fn valid(rng: &mut Rng, setting: &Setting) -> Record {
         if kind == b"N" && value[0] == b'W' {
             value[0] = b'V';
         }
-        record.set(5, kind);
-        record.set(6, value);
+        // Not the client itself, which place 17 would tell.
+        if (kind.as_slice(), value.as_slice()) != (record.get(3), record.get(4)) {
+            record.set(5, kind);
+            record.set(6, value);
+        }
     }
 
     record.set(7, one_of(rng, &[b"B", b"S"]));
@@ -166,7 +169,7 @@ pub fn valid(rng: &mut Rng, setting: &Setting) -> Record {
         record.set(21, special);
     }
     record.set(19, kind);
-    record.set(22, decimal(rng, 15, 4));
+    record.set(22, positive_decimal(rng, 15, 4));
     record.set(25, decimal(rng, 7, 4));
 
     let live: Vec<_> = setting

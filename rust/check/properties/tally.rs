@@ -1,5 +1,5 @@
-//! Counting: cases in groups, hits of places, refusals, what error files show and what sums end in,
-//! and the verdict.
+//! Counting: cases in groups, hits of places, refusals, what error files show, what sums end in and
+//! where zero was seen, and the verdict.
 
 use std::time::Instant;
 
@@ -12,7 +12,7 @@ use crate::values::digit_sum;
 
 /// Cases of one group.
 const GROUP: u64 = 1_000;
-/// Each place, refusal, sight and last digit has to be hit at least so often.
+/// Each place, refusal, last digit and sight has to be hit at least so often.
 const FEWEST_HITS: u64 = 100;
 /// Failed cases that are shown in full.
 const SHOWN: u64 = 10;
@@ -40,6 +40,24 @@ impl Kind {
 
 /// One more than the last refusal.
 const NUMBERS: usize = 20;
+
+/// Where zero was seen, and came to what document 02, Item 4, says of it.
+#[derive(Clone, Copy)]
+pub enum Zero {
+    Quantity,
+    Price,
+    Size,
+    Strike,
+    Stored,
+}
+
+const ZEROS: [&str; 5] = [
+    "as quantity, which fails at 34",
+    "as price, which is booked",
+    "as contract size, which is booked",
+    "as strike price, which is booked",
+    "as quantity of a row, which is cancelled",
+];
 
 /// How often a place was seen.
 #[derive(Clone, Copy, Default)]
@@ -76,6 +94,7 @@ pub struct Check {
     sights: [u64; SIGHTS.len()],
     /// By the last digit of a sum.
     sums: [u64; 10],
+    zeros: [u64; ZEROS.len()],
 }
 
 /// Whether a place was judged in an answer with this set of failures.
@@ -109,6 +128,7 @@ impl Check {
             refusals: [[0; NUMBERS]; KINDS.len()],
             sights: [0; SIGHTS.len()],
             sums: [0; 10],
+            zeros: [0; ZEROS.len()],
         }
     }
 
@@ -258,6 +278,11 @@ impl Check {
         sum
     }
 
+    /// Counts a zero.
+    pub fn zero(&mut self, seen: Zero) {
+        self.zeros[seen as usize] += 1;
+    }
+
     /// Counts what an error file shows.
     fn saw(&mut self, file: &ReadBack) {
         for (hits, (_, count)) in self.sights.iter_mut().zip(SIGHTS) {
@@ -366,6 +391,12 @@ impl Check {
         for (digit, hits) in self.sums.into_iter().enumerate() {
             let ok = hits >= FEWEST_HITS;
             println!("{digit:<43} {hits:>9}{}", if ok { "" } else { "  TOO FEW" });
+            self.count(ok);
+        }
+        println!("\n{:<43} {:>9}", "zero", "hits");
+        for (hits, name) in self.zeros.into_iter().zip(ZEROS) {
+            let ok = hits >= FEWEST_HITS;
+            println!("{name:<43} {hits:>9}{}", if ok { "" } else { "  TOO FEW" });
             self.count(ok);
         }
         println!();

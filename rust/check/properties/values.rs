@@ -124,14 +124,25 @@ pub fn decimal(rng: &mut Rng, whole: usize, fraction: usize) -> Vec<u8> {
     decimal
 }
 
-/// A value around the edges of the form `N whole,fraction`.
+/// A valid decimal of the form `N whole,fraction` that is not zero.
+pub fn positive_decimal(rng: &mut Rng, whole: usize, fraction: usize) -> Vec<u8> {
+    loop {
+        let decimal = decimal(rng, whole, fraction);
+        if decimal.iter().any(|digit| (b'1'..=b'9').contains(digit)) {
+            return decimal;
+        }
+    }
+}
+
+/// A value around the edges of the form `N whole,fraction`, now and then all zeros.
 pub fn near_decimal(rng: &mut Rng, whole: usize, fraction: usize) -> Vec<u8> {
+    let digits = *rng.pick(&[DIGITS, DIGITS, DIGITS, b"0"]);
     let length = *rng.pick(&[0, 1, whole - 1, whole, whole + 1]);
-    let mut decimal = rng.text(DIGITS, length);
+    let mut decimal = rng.text(digits, length);
     if rng.chance(70) {
         decimal.push(*rng.pick(b",,,,,,,.+"));
         let length = *rng.pick(&[0, 1, fraction - 1, fraction, fraction + 1]);
-        decimal.extend(rng.text(DIGITS, length));
+        decimal.extend(rng.text(digits, length));
     }
     if rng.chance(20) {
         decimal = near(rng, &decimal);

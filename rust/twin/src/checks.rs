@@ -3,7 +3,7 @@
 use crate::fields::Fields;
 use crate::forms::{
     has_right_check_digit, is_address, is_bank_code, is_date, is_decimal, is_isin, is_isin_form,
-    is_name, is_time_with_seconds, same_address,
+    is_name, is_time_with_seconds, is_zero, same_address,
 };
 use crate::ledger::Compartment;
 use crate::tables::{is_special, Currencies, Reporter, Reporters};
@@ -169,7 +169,10 @@ pub fn check_content(fields: &Fields, reporter: Reporter, currencies: Currencies
     fail_if(31, f21.is_empty());
     fail_if(32, !f21.is_empty() && !special && !money);
     fail_if(33, f22.is_empty());
-    fail_if(34, !f22.is_empty() && !is_decimal(f22, 15, 4));
+    fail_if(
+        34,
+        !f22.is_empty() && (!is_decimal(f22, 15, 4) || is_zero(f22)),
+    );
     fail_if(35, f23.is_empty());
     fail_if(36, !matches!(f23, b"" | b"1" | b"2" | b"3" | b"4"));
     fail_if(

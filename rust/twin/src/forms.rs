@@ -86,6 +86,11 @@ pub fn is_decimal(bytes: &[u8], whole: usize, fraction: usize) -> bool {
     }
 }
 
+/// Whether the value of a decimal is zero: none of its digits is above 0.
+pub fn is_zero(decimal: &[u8]) -> bool {
+    !decimal.iter().any(|byte| matches!(byte, b'1'..=b'9'))
+}
+
 /// The value of an N15,4 decimal in ten-thousandths.
 pub fn ten_thousandths(decimal: &[u8]) -> u64 {
     let mut value = 0;
@@ -164,6 +169,17 @@ mod tests {
         assert!(!is_decimal(b"1234567890123456", 15, 4));
         assert!(!is_decimal(b"5,", 15, 4));
         assert!(!is_decimal(b",5", 15, 4));
+    }
+
+    #[test]
+    fn zeros() {
+        for decimal in [b"0".as_slice(), b"0,0000", b"000,0"] {
+            assert!(is_zero(decimal) && ten_thousandths(decimal) == 0);
+            assert!(is_decimal(decimal, 15, 4));
+            assert!(is_decimal(decimal, 7, 4));
+            assert!(is_decimal(decimal, 10, 6));
+        }
+        assert!(!is_zero(b"0,0001"));
     }
 
     #[test]
