@@ -5,19 +5,18 @@ use native.Mathlib.Omega.{arith}
 use mathlib.Core.Path.{_≡_, refl, ap, sym, _∙_}
 use mathlib.Core.Bool.{true}
 use mathlib.Core.List.{List, [], _∷_, _++_}
-use borrow.Author.Tests.{le-leb}
 use lib.Dec.{lit<}
 use lib.ListN.{length, getD, take, drop, set, replicate, length-append, length-set, length-replicate}
 use lib.Seq.{getD-drop, take-at, drop-at, take-take, take-append-le, drop-set-lt, drop-drop}
 use Rattle.text.specs.Class.{isZero}
 use Rattle.text.specs.Bytes.{all}
-use Rattle.text.specs.Number.{lowBytes, numberAt, numberPut}
+use Rattle.text.specs.Number.{lowBytes, numberAt}
 use Rattle.text.proofs.NumberLaws.{low-length, little-low, put-length, number-put, put-front, put-back}
 use Rattle.text.proofs.ByteLaws.{front-part}
 use Rattle.identifier.specs.Identifier.{nameUpTo}
 use Rattle.ledger.specs.Row.{rowSize, live, cancellation, numberRoom, largestQuantity, noPartner}
-use Rattle.ledger.specs.Row.{statePlace, lengthPlace, numberPlace, quantityPlace, partnerPlace, sidePlace, zerosPlace}
-use Rattle.ledger.specs.Row.{state, numberLength, number, numberPadding, quantity, partner, side, isSide, rowForm}
+use Rattle.ledger.specs.Row.{statePlace, quantityPlace, partnerPlace, sidePlace, zerosPlace}
+use Rattle.ledger.specs.Row.{state, number, numberPadding, quantity, partner, side, isSide, rowForm}
 use Rattle.ledger.proofs.RowLaws.{form-parts, parts-form, kept-state, kept-number, kept-form}
 use Rattle.ledger.proofs.SoundLaws.{Relinked}
 use Rattle.booking.specs.Booking.{padded, newRow, relinked}

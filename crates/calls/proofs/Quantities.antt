@@ -4,7 +4,7 @@ use Prim.Native.Nat.{ℕ, _≤_, _<_}
 use native.Mathlib.Decide.{ℕ-discrete}
 use mathlib.Core.Bool.{true}
 use mathlib.Core.List.{List}
-use mathlib.Core.Path.{_≡_, refl, ap, _∙_}
+use mathlib.Core.Path.{_≡_, ap}
 use Rattle.frame.proofs.Consequences.{same-reply}
 use Rattle.decimal.specs.Decimal.{decimalOf, valueOf}
 use Rattle.failures.specs.Failures.{isEmpty}
@@ -21,7 +21,7 @@ use Rattle.checks.specs.Booking.{namedRow, bookingTests, bookingOf}
 use Rattle.checks.specs.Verdict.{failuresFrom7}
 use Rattle.checks.proofs.PassedLaws.{quantity-passed}
 use Rattle.answer.specs.Answer.{answerBytes}
-use Rattle.calls.specs.Call.{Call, checkedOf, rowOf, stepFailures, stepAnswer}
+use Rattle.calls.specs.Call.{checkedOf, rowOf, stepFailures, stepAnswer}
 use Rattle.calls.specs.Rules.{rules}
 use Rattle.calls.specs.Quantities.{ledgerWithQuantity, AnyQuantity}
 use Rattle.calls.proofs.StepLaws.{step-passed}

@@ -7,7 +7,6 @@ use mathlib.Core.Path.{_≡_, refl}
 use Prim.Native.String.{String}
 use Rattle.text.specs.Bytes.{all, positionOf}
 use Rattle.text.specs.Text.{bytes}
-use Rattle.decimal.specs.declared.Amount.{Amount}
 use Rattle.decimal.specs.declared.Decimal.{Decimal}
 use Rattle.decimal.specs.declared.Decimal.the-variants.{Value, Malformed}
 use Rattle.decimal.specs.Decimal.{decimalOf, decimalAt, wholeOnly, wholeAndPart, digitsUpTo, digitsValueAfter}

@@ -3,24 +3,23 @@
 use Prim.Native.Nat.{ℕ, _+_, _*_, _≤_, _<_}
 use native.Mathlib.Decide.{ℕ-discrete, decLt}
 use native.Mathlib.Omega.{arith}
-use mathlib.Core.Path.{_≡_, refl, ap, sym, _∙_}
-use mathlib.Core.Bool.{Bool, true, _&&_}
+use mathlib.Core.Path.{_≡_, ap, sym, _∙_}
+use mathlib.Core.Bool.{Bool, true}
 use mathlib.Core.List.{List, []}
 use mathlib.Core.Logic.{_≢_}
-use lib.Dec.{eqb}
 use lib.ListN.{length, take, drop, set, drop-of-length-le}
 use lib.Seq.{take-nil, drop-drop, set-getD}
-use borrow.Author.Tests.{eqb-false, eq-eqb, not-true}
+use borrow.Author.Tests.{eqb-false, not-true}
 use Rattle.frame.specs.Every.{every}
-use Rattle.frame.specs.Parts.{part, put}
+use Rattle.frame.specs.Parts.{part}
 use Rattle.frame.proofs.EveryLaws.{every-same}
 use Rattle.frame.proofs.LeastLaws.{least-same}
 use Rattle.frame.proofs.PartLaws.{part-put, part-put-other}
 use Rattle.frame.proofs.PartLaws as parts
 use Rattle.text.specs.Number.{littleEndian, numberAt}
 use Rattle.text.proofs.NumberLaws.{put-length, number-put, put-front, put-back}
-use Rattle.ledger.specs.Row.{rowSize, free, live, largestQuantity, statePlace, quantityPlace, partnerPlace, sidePlace}
-use Rattle.ledger.specs.Row.{state, filledRow, number, quantity, partner, rowForm}
+use Rattle.ledger.specs.Row.{rowSize, free, largestQuantity, statePlace, quantityPlace, partnerPlace, sidePlace}
+use Rattle.ledger.specs.Row.{state, filledRow, number, partner, rowForm}
 use Rattle.ledger.specs.Sound.{rowCount, compartmentSize, Rows, rowsOf, pointsBack, linked, precedes, soundRow, soundCompartment}
 use Rattle.ledger.specs.Lookup.{firstRow, isFree, hasNumber, isLive, freeRow, rowByNumber, liveRow}
 use Rattle.ledger.specs.Quantity.{withQuantity, withQuantityAt}
