@@ -1,6 +1,6 @@
 -- A booking keeps the length of a compartment and its soundness, and is found by its number.
 -- Assumes nothing.
-use Prim.Native.Nat.{ℕ, zero, suc, _≤_, _<_}
+use Prim.Native.Nat.{ℕ, _≤_, _<_}
 use native.Mathlib.Decide.{ℕ-discrete}
 use native.Mathlib.Omega.{arith}
 use mathlib.Core.Path.{_≡_, refl, ap, sym, _∙_}
@@ -10,10 +10,8 @@ use mathlib.Core.Logic.{_≢_}
 use lib.Dec.{eqb, leb, ltb}
 use lib.ListN.{length}
 use borrow.Author.Tests.{eqb-true, eq-eqb, ltb-true, ltb-false, lt-ltb, le-ltb, leb-true, le-leb}
-use Rattle.frame.specs.Parts.{put}
 use Rattle.frame.proofs.BoolLaws.{and-left, and-right, and-false}
 use Rattle.frame.proofs.LeastLaws.{least-is, least-same}
-use Rattle.frame.proofs.PartLaws.{part-put, part-put-other, put-length}
 use Rattle.text.specs.Bytes.{same}
 use Rattle.text.proofs.ByteLaws.{same-refl, same-sym}
 use Rattle.identifier.specs.Identifier.{nameUpTo}
@@ -21,7 +19,8 @@ use Rattle.ledger.specs.Row.{rowSize, free, live, cancelled, cancellation, numb
 use Rattle.ledger.specs.Sound.{rowCount, compartmentSize, rowsOf, soundCompartment}
 use Rattle.ledger.specs.Lookup.{hasNumber, isLive, freeRow, rowByNumber, liveRow}
 use Rattle.ledger.proofs.RowLaws.{name-short}
-use Rattle.ledger.proofs.SoundLaws.{sound-size, sound-rows, rows-sound, row-inside, row-length, filled-row, Relinked, new-sound, linked-sound, linked-number}
+use Rattle.ledger.proofs.SoundLaws.{sound-size, sound-rows, rows-sound, row-length, put-size, put-here, put-there, filled-row, Relinked, new-sound, linked-sound}
+use Rattle.ledger.proofs.SoundLaws.{linked-number}
 use Rattle.ledger.proofs.SoundLaws.{first-row, free-row-free, filled-before, fresh-number, live-before}
 use Rattle.booking.specs.Booking.{newRow, entered, relinked, relinkedAt, cancelledBy, canBook, booked}
 use Rattle.booking.proofs.RowLaws.{relinked-length, relinked-row, new-length, new-state, new-number, new-partner, new-form}
@@ -47,17 +46,6 @@ module _ {f : ℕ} {n c : List ℕ} where
   unfolding canBook
   possible-book P = rw (eq-eqb _ _ (P .sized), lt-ltb _ _ (P .inside)) (le-leb _ _ (P .short))
 
--- the rows after row k is replaced
-module _ (k : ℕ) (w c : List ℕ) (sized : length c ≡ compartmentSize) (kh : k < rowCount) (long : length w ≡ rowSize) where
-  put-size : length (put rowSize k w c) ≡ compartmentSize
-  put-size = put-length rowSize k w c (row-inside c sized k kh) long ∙ sized
-
-  put-here : rowsOf (put rowSize k w c) k ≡ w
-  put-here = part-put rowSize k w c (row-inside c sized k kh) long
-
-  put-there : (j : ℕ) → j < rowCount → j ≢ k → rowsOf (put rowSize k w c) j ≡ rowsOf c j
-  put-there j jh ne = part-put-other rowSize k w c (row-inside c sized k kh) long j ne (row-inside c sized j jh)
-
 -- after a new row is entered
 module _ (f : ℕ) (n : List ℕ) (q s : ℕ) (c : List ℕ) (P : Possible f n c) where
   pub entered-size : length (entered f n q s c) ≡ compartmentSize
@@ -70,7 +58,7 @@ module _ (f : ℕ) (n : List ℕ) (q s : ℕ) (c : List ℕ) (P : Possible f n c
 
   entered-there : (k : ℕ) → k < rowCount → k ≢ f → rowsOf (entered f n q s c) k ≡ rowsOf c k
   unfolding entered
-  entered-there = put-there f (newRow n q s) c (P .sized) (P .inside) (new-length n q s (P .short))
+  entered-there k kh = put-there f (newRow n q s) c (P .sized) (P .inside) (new-length n q s (P .short)) k
 
 -- after row k is relinked
 module _ (k s p : ℕ) (c : List ℕ) (sized : length c ≡ compartmentSize) (kh : k < rowCount) where
@@ -87,7 +75,7 @@ module _ (k s p : ℕ) (c : List ℕ) (sized : length c ≡ compartmentSize) (kh
 
   relinked-there : (j : ℕ) → j < rowCount → j ≢ k → rowsOf (relinkedAt k s p c) j ≡ rowsOf c j
   unfolding relinkedAt
-  relinked-there = put-there k (relinked s p (rowsOf c k)) c sized kh long
+  relinked-there j jh = put-there k (relinked s p (rowsOf c k)) c sized kh long j
 
 -- after rows f and p are linked
 module _ (f p : ℕ) (c : List ℕ) (sized : length c ≡ compartmentSize) (fh : f < rowCount) (ph : p < rowCount) where

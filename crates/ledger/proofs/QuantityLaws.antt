@@ -1,21 +1,18 @@
 -- What quantity stands in a filled row, 0 included, is asked neither of a sound compartment nor by what is looked up in one.
 -- Assumes nothing.
-use Prim.Native.Nat.{ℕ, _+_, _*_, _≤_, _<_}
-use native.Mathlib.Decide.{ℕ-discrete, decLt}
+use Prim.Native.Nat.{ℕ, _+_, _≤_, _<_}
+use native.Mathlib.Decide.{ℕ-discrete}
 use native.Mathlib.Omega.{arith}
 use mathlib.Core.Path.{_≡_, ap, sym, _∙_}
 use mathlib.Core.Bool.{Bool, true}
-use mathlib.Core.List.{List, []}
+use mathlib.Core.List.{List}
 use mathlib.Core.Logic.{_≢_}
-use lib.ListN.{length, take, drop, set, drop-of-length-le}
-use lib.Seq.{take-nil, drop-drop, set-getD}
+use lib.ListN.{length, take, drop, set}
+use lib.Seq.{drop-drop, set-getD}
 use borrow.Author.Tests.{eqb-false, not-true}
 use Rattle.frame.specs.Every.{every}
-use Rattle.frame.specs.Parts.{part}
 use Rattle.frame.proofs.EveryLaws.{every-same}
 use Rattle.frame.proofs.LeastLaws.{least-same}
-use Rattle.frame.proofs.PartLaws.{part-put, part-put-other}
-use Rattle.frame.proofs.PartLaws as parts
 use Rattle.text.specs.Number.{littleEndian, numberAt}
 use Rattle.text.proofs.NumberLaws.{put-length, number-put, put-front, put-back}
 use Rattle.ledger.specs.Row.{rowSize, free, largestQuantity, statePlace, quantityPlace, partnerPlace, sidePlace}
@@ -24,7 +21,7 @@ use Rattle.ledger.specs.Sound.{rowCount, compartmentSize, Rows, rowsOf, 
 use Rattle.ledger.specs.Lookup.{firstRow, isFree, hasNumber, isLive, freeRow, rowByNumber, liveRow}
 use Rattle.ledger.specs.Quantity.{withQuantity, withQuantityAt}
 use Rattle.ledger.proofs.RowLaws.{Form, form-parts, kept-state, kept-number, kept-form}
-use Rattle.ledger.proofs.SoundLaws.{sound-size, sound-rows, rows-sound, row-inside, row-length, Filled, filled-row, row-filled, first-row}
+use Rattle.ledger.proofs.SoundLaws.{sound-size, sound-rows, rows-sound, row-length, put-size, put-here, put-there, Filled, filled-row, row-filled, first-row}
 
 -- a row with another quantity: its state, its number and its partner stay, and so does its form
 module _ (q : ℕ) (w : List ℕ) (sized : length w ≡ rowSize) where
@@ -85,24 +82,15 @@ module _ (k q : ℕ) (c : List ℕ) (sound : soundCompartment c ≡ true) (kh : 
 
   d-sized : length d ≡ compartmentSize
   unfolding withQuantityAt
-  d-sized = parts.put-length rowSize k (withQuantity q (ρ k)) c (row-inside c sized k kh) long ∙ sized
+  d-sized = put-size k (withQuantity q (ρ k)) c sized kh long
 
   here : σ k ≡ withQuantity q (ρ k)
   unfolding withQuantityAt
-  here = part-put rowSize k (withQuantity q (ρ k)) c (row-inside c sized k kh) long
-
-  -- past the last row there is nothing
-  beyond : (e : List ℕ) → length e ≡ compartmentSize → (j : ℕ) → rowCount ≤ j → rowsOf e j ≡ []
-  unfolding part
-  beyond e z j h = rw (drop-of-length-le e {i = j * rowSize} (omega arith)) (take-nil rowSize)
+  here = put-here k (withQuantity q (ρ k)) c sized kh long
 
   there : (j : ℕ) → j ≢ k → σ j ≡ ρ j
   unfolding withQuantityAt
-  there j ne = go (decLt j rowCount)
-    where
-      go : Dec (j < rowCount) → σ j ≡ ρ j
-      go (yes h) = part-put-other rowSize k (withQuantity q (ρ k)) c (row-inside c sized k kh) long j ne (row-inside c sized j h)
-      go (no h) = let past : rowCount ≤ j = omega arith in beyond d d-sized j past ∙ sym (beyond c sized j past)
+  there = put-there k (withQuantity q (ρ k)) c sized kh long
 
   taken : state (ρ k) ≢ free
   taken = eqb-false _ _ (not-true _ filled)

@@ -3,18 +3,20 @@
 use Prim.Native.Nat.{ℕ, _+_, _*_, _≤_, _<_}
 use native.Mathlib.Decide.{ℕ-discrete, decLt}
 use native.Mathlib.Omega.{arith}
-use mathlib.Core.Path.{_≡_, refl, ap, _∙_}
+use mathlib.Core.Path.{_≡_, refl, ap, sym, _∙_}
 use mathlib.Core.Bool.{Bool, true, false, _&&_, cond}
-use mathlib.Core.List.{List}
+use mathlib.Core.List.{List, []}
 use mathlib.Core.Logic.{_≢_}
 use lib.Dec.{eqb, ltb}
-use lib.ListN.{length}
+use lib.ListN.{length, drop-of-length-le}
+use lib.Seq.{take-nil}
 use borrow.Author.Tests.{eqb-true, eqb-false, eq-eqb, ne-eqb, ltb-true, lt-ltb, not-true}
 use Rattle.frame.specs.Every.{every, least}
+use Rattle.frame.specs.Parts.{part, put}
 use Rattle.frame.proofs.BoolLaws.{and-left, and-right, and-intro}
 use Rattle.frame.proofs.EveryLaws.{every-at, every-intro, every-same}
 use Rattle.frame.proofs.LeastLaws.{least-hit, least-below}
-use Rattle.frame.proofs.PartLaws.{part-length}
+use Rattle.frame.proofs.PartLaws.{part-length, part-put, part-put-other, put-length}
 use Rattle.text.specs.Bytes.{same}
 use Rattle.ledger.specs.Row.{rowSize, free, live, cancelled, cancellation, noPartner, state, filledRow, number, partner, rowForm}
 use Rattle.ledger.specs.Sound.{rowCount, compartmentSize, Rows, rowsOf, pointsBack, linked, precedes, soundRow, soundCompartment}
@@ -37,6 +39,26 @@ row-inside c z k h = omega arith
 
 pub row-length : (c : List ℕ) → length c ≡ compartmentSize → (k : ℕ) → k < rowCount → length (rowsOf c k) ≡ rowSize
 row-length c z k h = part-length rowSize k c (row-inside c z k h)
+
+-- past the last row there is nothing
+row-beyond : (c : List ℕ) → length c ≡ compartmentSize → (k : ℕ) → rowCount ≤ k → rowsOf c k ≡ []
+unfolding part
+row-beyond c z k h = rw (drop-of-length-le c {i = k * rowSize} (omega arith)) (take-nil rowSize)
+
+-- the rows after row k is replaced
+module _ (k : ℕ) (w c : List ℕ) (sized : length c ≡ compartmentSize) (kh : k < rowCount) (long : length w ≡ rowSize) where
+  pub put-size : length (put rowSize k w c) ≡ compartmentSize
+  put-size = put-length rowSize k w c (row-inside c sized k kh) long ∙ sized
+
+  pub put-here : rowsOf (put rowSize k w c) k ≡ w
+  put-here = part-put rowSize k w c (row-inside c sized k kh) long
+
+  pub put-there : (j : ℕ) → j ≢ k → rowsOf (put rowSize k w c) j ≡ rowsOf c j
+  put-there j ne = go (decLt j rowCount)
+    where
+      go : Dec (j < rowCount) → rowsOf (put rowSize k w c) j ≡ rowsOf c j
+      go (yes h) = part-put-other rowSize k w c (row-inside c sized k kh) long j ne (row-inside c sized j h)
+      go (no h) = let past : rowCount ≤ j = omega arith in row-beyond (put rowSize k w c) put-size j past ∙ sym (row-beyond c sized j past)
 
 -- what a sound filled row has
 pub record Filled (ρ : Rows) (k : ℕ) : Type 0 where

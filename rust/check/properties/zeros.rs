@@ -38,6 +38,18 @@ fn option(rng: &mut Rng, setting: &Setting) -> Record {
     }
 }
 
+/// The call of a bank's record on a ledger.
+fn call<'a>(world: &'a World, bank: usize, ledger: &'a [u8], record: &'a [u8]) -> RecordCall<'a> {
+    RecordCall {
+        reporters: &world.reporters,
+        currencies: &world.currencies,
+        ledger,
+        sender: &world.banks[bank].mailbox,
+        record,
+        room: 16,
+    }
+}
+
 /// Every zero in each of the four fields, and with each of its digits replaced by another.
 pub fn every_zero(check: &mut Check, rng: &mut Rng, rounds: usize) {
     check.section("zeros: every one, and each digit of it replaced");
@@ -50,14 +62,7 @@ pub fn every_zero(check: &mut Check, rng: &mut Rng, rounds: usize) {
                 let mut record = option(rng, &Setting::new(&world, bank, &ledger));
                 let mut judge = |value: &[u8], due: u64| {
                     record.set(n, value);
-                    let left = check.record(&RecordCall {
-                        reporters: &world.reporters,
-                        currencies: &world.currencies,
-                        ledger: &ledger,
-                        sender: &world.banks[bank].mailbox,
-                        record: &record.to_bytes(),
-                        room: 16,
-                    });
+                    let left = check.record(&call(&world, bank, &ledger, &record.to_bytes()));
                     let set = set_of(&left.written);
                     check.case(set == due, || {
                         format!("{} as F{n} gives {set:x}", value.escape_ascii())
@@ -99,14 +104,7 @@ pub fn stored(check: &mut Check, rng: &mut Rng, cases: usize) {
         let answers = [0, any].map(|quantity| {
             rows[at].quantity = quantity;
             put(&mut ledger, bank, &rows);
-            let left = check.record(&RecordCall {
-                reporters: &world.reporters,
-                currencies: &world.currencies,
-                ledger: &ledger,
-                sender: &world.banks[bank].mailbox,
-                record: &record.to_bytes(),
-                room: 16,
-            });
+            let left = check.record(&call(&world, bank, &ledger, &record.to_bytes()));
             let state = left.ledger[bank * COMPARTMENT_SIZE + at * ROW_SIZE];
             (set_of(&left.written), left.written.clone(), state)
         });
