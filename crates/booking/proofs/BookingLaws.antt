@@ -19,8 +19,8 @@ use Rattle.ledger.specs.Row.{rowSize, free, live, cancelled, cancellation, numb
 use Rattle.ledger.specs.Sound.{rowCount, compartmentSize, rowsOf, soundCompartment}
 use Rattle.ledger.specs.Lookup.{hasNumber, isLive, freeRow, rowByNumber, liveRow}
 use Rattle.ledger.proofs.RowLaws.{name-short}
-use Rattle.ledger.proofs.SoundLaws.{sound-size, sound-rows, rows-sound, row-length, put-size, put-here, put-there, filled-row, Relinked, new-sound, linked-sound}
-use Rattle.ledger.proofs.SoundLaws.{linked-number}
+use Rattle.ledger.proofs.SoundLaws.{sound-size, sound-rows, rows-sound, row-length, put-size, put-here, put-there, filled-row}
+use Rattle.ledger.proofs.SoundLaws.{Relinked, new-sound, linked-sound, linked-number}
 use Rattle.ledger.proofs.SoundLaws.{first-row, free-row-free, filled-before, fresh-number, live-before}
 use Rattle.booking.specs.Booking.{newRow, entered, relinked, relinkedAt, cancelledBy, canBook, booked}
 use Rattle.booking.proofs.RowLaws.{relinked-length, relinked-row, new-length, new-state, new-number, new-partner, new-form}

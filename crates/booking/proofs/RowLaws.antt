@@ -53,15 +53,15 @@ module _ (s p : ℕ) (w : List ℕ) (sized : length w ≡ rowSize) where
   unfolding relinked
   relinked-partner h = number-put 2 partnerPlace p stated partner-fits h
 
+  quantity-bytes : take 8 (drop quantityPlace (relinked s p w)) ≡ take 8 (drop quantityPlace w)
+  quantity-bytes =
+      front-part partnerPlace (relinked s p w) stated before-partner quantityPlace 8 (omega arith) (omega (arith, relinked-length))
+      (omega (arith, stated-length))
+      ∙ ap (take 8) (drop-set-lt quantityPlace w statePlace s (omega arith))
+
   same-quantity : quantity (relinked s p w) ≡ quantity w
   unfolding numberAt
-  same-quantity =
-      rw (
-        relinked-length,
-        sized,
-        front-part partnerPlace (relinked s p w) stated before-partner quantityPlace 8 (omega arith) (omega (arith, relinked-length)) (omega (arith, stated-length)),
-        drop-set-lt quantityPlace w statePlace s (omega arith),
-      )
+  same-quantity = rw (relinked-length, sized, quantity-bytes)
 
   pub relinked-row : rowForm w ≡ true → live ≤ s → s ≤ cancellation → p < 256 ^ 2 → Relinked s p w (relinked s p w)
   relinked-row h taken known small =

@@ -136,14 +136,15 @@ steps : map computed (r1 ∷ r5 ∷ future ∷ zeroQuantity ∷ zeroTerms ∷ []
     ∷ (true, 0, zeroQuantityAnswer, zeros)
     ∷ (true, 0, zeroTermsAnswer, r1Compartment)
     ∷ []
-unfolding workedRecord workedReporters workedCurrencies bookedAnswer r5Answer future zeroQuantity zeroQuantityAnswer zeroTerms r1Row recordForm checkedOf senderCheck senderTests reporterTests
-    reporterRow rowByCode rowByAddress hasMailbox mailboxOf least part put all same positionOf decimalOf decimalAt wholeOnly wholeAndPart digitsUpTo
-    digitsValueAfter digitsExactly realDate realDay daysIn realSecond bankCode swiftForm completed sameAddress nameUpTo isinForm letterValue digitsOf digits
-    weighted digitSum checkDigitRight holds isEmpty added addedFrom codes codeAt isWhole semicolonsFrom fieldStart fieldEnd fieldPlace fieldOf letter hasCode
-    hasAddress isSpecial isMoney isAmong lacksForm sameParty clientTests venueForm tradeTests instrumentTests termsTests namesOwn capacityTests derivativeTests
-    markTests asksUnderlying isMissing isTheme presentTests underlyingTests clientGroup tradeGroup instrumentGroup termsGroup capacityGroup derivativeGroup
-    underlyingGroup marksGroup recordTests recordFailures padded newRow entered canBook booked lowBytes numberAt littleEndian freeRow rowByNumber liveRow
-    namedRow bookingTests bookingOf failuresFrom7 statusAt stepFailures answerOf stepAnswer bookedAs stepCompartment answerBytes trailingZeros
+unfolding workedRecord workedReporters workedCurrencies bookedAnswer r5Answer future zeroQuantity zeroQuantityAnswer zeroTerms r1Row recordForm checkedOf
+    senderCheck senderTests reporterTests reporterRow rowByCode rowByAddress hasMailbox mailboxOf least part put all same positionOf decimalOf decimalAt
+    wholeOnly wholeAndPart digitsUpTo digitsValueAfter digitsExactly realDate realDay daysIn realSecond bankCode swiftForm completed sameAddress nameUpTo
+    isinForm letterValue digitsOf digits weighted digitSum checkDigitRight holds isEmpty added addedFrom codes codeAt isWhole semicolonsFrom fieldStart
+    fieldEnd fieldPlace fieldOf letter hasCode hasAddress isSpecial isMoney isAmong lacksForm sameParty clientTests venueForm tradeTests instrumentTests
+    termsTests namesOwn capacityTests derivativeTests markTests asksUnderlying isMissing isTheme presentTests underlyingTests clientGroup tradeGroup
+    instrumentGroup termsGroup capacityGroup derivativeGroup underlyingGroup marksGroup recordTests recordFailures padded newRow entered canBook booked
+    lowBytes numberAt littleEndian freeRow rowByNumber liveRow namedRow bookingTests bookingOf failuresFrom7 statusAt stepFailures answerOf stepAnswer
+    bookedAs stepCompartment answerBytes trailingZeros
 steps = refl
 
 -- R1 is booked in row 0 of compartment 0, and the rest of the ledger stays; R5 is answered with its set, and nothing is booked; a future with 0,125000 as
@@ -170,7 +171,8 @@ worked =
     kept : put compartmentSize 0 zeros emptyLedger ≡ emptyLedger
     kept = ap (λ (c : List ℕ). put compartmentSize 0 c emptyLedger) (sym zeros-part) ∙ put-own compartmentSize 0 emptyLedger
 
-    not-booked : (s : List ℕ) {answer : List ℕ} → computed s ≡ (true, 0, answer, zeros) → calledAlone s ≡ record { reply = accepted answer; store = emptyLedger }
+    not-booked : (s : List ℕ) {answer : List ℕ} → computed s ≡ (true, 0, answer, zeros)
+        → calledAlone s ≡ record { reply = accepted answer; store = emptyLedger }
     not-booked s {answer} e = on-zeros s e ∙ (λ j. record { reply = accepted answer; store = kept j })
 
 -- what the envelope of a file of either body comes to: no call; one call, of an empty record

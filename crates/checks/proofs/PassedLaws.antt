@@ -40,7 +40,7 @@ use Rattle.checks.proofs.RecordLaws.{underlying-length, record-length}
 behind : (ts us : List Bool) (n k : ℕ) → length ts ≡ n → getD (ts ++ us) (n + k) false ≡ getD us k false
 behind ts us n k e = subst (λ (m : ℕ). getD (ts ++ us) (m + k) false ≡ getD us k false) e (getD-append-add ts us k false)
 
--- a field that is filled, and Nm,n and not zero where it is filled, has a value above zero
+-- a quantity at which 33 and 34 pass is above zero
 filled-positive : (s : List ℕ) → blank s ≡ false → filled s && not (isPositive 15 4 s) ≡ false → 0 < valueOf (decimalOf 15 4 s)
 filled-positive s p q = go (decimalOf 15 4 s) refl (rw p at q)
   where

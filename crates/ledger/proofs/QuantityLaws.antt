@@ -21,7 +21,8 @@ use Rattle.ledger.specs.Sound.{rowCount, compartmentSize, Rows, rowsOf, 
 use Rattle.ledger.specs.Lookup.{firstRow, isFree, hasNumber, isLive, freeRow, rowByNumber, liveRow}
 use Rattle.ledger.specs.Quantity.{withQuantity, withQuantityAt}
 use Rattle.ledger.proofs.RowLaws.{Form, form-parts, kept-state, kept-number, kept-form}
-use Rattle.ledger.proofs.SoundLaws.{sound-size, sound-rows, rows-sound, row-length, put-size, put-here, put-there, Filled, filled-row, row-filled, first-row}
+use Rattle.ledger.proofs.SoundLaws.{sound-size, sound-rows, rows-sound, row-length, put-size, put-here, put-there}
+use Rattle.ledger.proofs.SoundLaws.{Filled, filled-row, row-filled, first-row}
 
 -- a row with another quantity: its state, its number and its partner stay, and so does its form
 module _ (q : ℕ) (w : List ℕ) (sized : length w ≡ rowSize) where
