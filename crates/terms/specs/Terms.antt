@@ -29,7 +29,7 @@ termsTests money21 money24 f21 f22 f23 f24 f25 =
     ∷ (filled f21 && not (isSpecial f21) && not money21)
     -- 33 0220 F22 blank
     ∷ blank f22
-    -- 34 0221 F22 filled, not N15,4 or zero (document 02, Item 4)
+    -- 34 0221 F22 filled, not N15,4, or zero (document 02, Item 4)
     ∷ (filled f22 && not (isPositive 15 4 f22))
     -- 35 0230 F23 blank
     ∷ blank f23
