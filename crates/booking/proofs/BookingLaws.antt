@@ -277,6 +277,13 @@ module _ (f : ℕ) (n : List ℕ) (q s p : ℕ) (c : List ℕ)
   pub booked-sound : soundCompartment (booked f n q s p c) ≡ true
   booked-sound = booked-has (λ e. soundCompartment e ≡ true) grown-sound joined-sound
 
+  -- a cancellation leaves the row that it names cancelled
+  pub named-cancelled : p < rowCount → state (rowsOf (booked f n q s p c) p) ≡ cancelled
+  unfolding joined grown
+  named-cancelled ph =
+      by-cases f n q s p c (λ e. state (rowsOf e p) ≡ cancelled) (λ h. absurd (false≢true (sym h ∙ possible-book possible)))
+      (λ h g. absurd (omega arith)) (λ h g. at-p g .stated)
+
   booked-number : (m : List ℕ) → rowByNumber (booked f n q s p c) m ≡ rowByNumber grown m
   booked-number m = booked-has (λ e. rowByNumber e m ≡ rowByNumber grown m) refl (λ ph. joined-number ph m)
 

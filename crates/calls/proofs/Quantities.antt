@@ -24,7 +24,7 @@ use Rattle.answer.specs.Answer.{answerBytes}
 use Rattle.calls.specs.Call.{checkedOf, rowOf, stepFailures, stepAnswer}
 use Rattle.calls.specs.Rules.{rules}
 use Rattle.calls.specs.Quantities.{ledgerWithQuantity, AnyQuantity}
-use Rattle.calls.proofs.StepLaws.{step-passed}
+use Rattle.calls.proofs.StepLaws.{step-passed, step-cancels}
 
 module _ (tables : Tables) where
   -- A record that is booked has a quantity above zero.
@@ -38,7 +38,8 @@ module _ (tables : Tables) where
   unfolding stepAnswer stepFailures failuresFrom7 bookingOf bookingTests namedRow
   found-alike row s c d free number live = rw (free, number (fieldOf s 39), live (fieldOf s 16))
 
-  -- On every sound ledger, any quantity within its bound in any filled row: the ledger is sound, and every call gets the same reply.
+  -- On every sound ledger, any quantity within its bound in any filled row: the ledger is sound, every call gets the same reply, and the row is cancelled
+  -- by a record that names it and is booked.
   pub any-quantity : (l : List ℕ) → soundLedger l ≡ true → (r k q : ℕ) → r < bankCount → k < rowCount → filledRow (rowsOf (compartment r l) k) ≡ true
       → q ≤ largestQuantity → AnyQuantity tables r k q l
   unfolding ledgerWithQuantity
@@ -48,6 +49,7 @@ module _ (tables : Tables) where
         replies = λ call.
             let p : ℕ = rowOf (checkedOf tables call) in
             same-reply (rules tables) call after l (flaw-none after after-sound) (flaw-none l h) (λ inside. ap answerBytes (alike p (call .«record») p inside));
+        cancels = λ reporter s passed e. rw e at (step-cancels tables reporter s d d-sound passed (rw e row));
       }
     where
       c : List ℕ

@@ -1,6 +1,6 @@
--- The step keeps a sound compartment sound: what its checks have passed is what a booking asks.
+-- The step keeps a sound compartment sound, and leaves the row that it names cancelled: what its checks have passed is what a booking asks.
 -- Assumes nothing.
-use Prim.Native.Nat.{ℕ}
+use Prim.Native.Nat.{ℕ, _≤_, _<_}
 use native.Mathlib.Omega.{arith}
 use mathlib.Core.Bool.{Bool, true, false, cond, false≢true}
 use mathlib.Core.List.{List}
@@ -12,9 +12,11 @@ use Rattle.fields.specs.Fields.{fieldOf}
 use Rattle.fields.specs.Forms.{letter}
 use Rattle.tables.specs.Currencies.{isMoney}
 use Rattle.tables.specs.Tables.{Tables}
-use Rattle.ledger.specs.Sound.{soundCompartment}
-use Rattle.ledger.specs.Lookup.{freeRow}
-use Rattle.booking.proofs.BookingLaws.{booked-sound}
+use Rattle.identifier.specs.Identifier.{nameUpTo}
+use Rattle.ledger.specs.Row.{live, cancelled, numberRoom, largestQuantity, state, isSide}
+use Rattle.ledger.specs.Sound.{rowCount, rowsOf, soundCompartment}
+use Rattle.ledger.specs.Lookup.{freeRow, rowByNumber}
+use Rattle.booking.proofs.BookingLaws.{booked-sound, named-cancelled}
 use Rattle.checks.specs.Booking.{namedRow, bookingOf}
 use Rattle.checks.specs.Verdict.{failuresFrom7}
 use Rattle.checks.proofs.PassedLaws.{side-passed, number-passed, number-new, row-free, named-live}
@@ -34,16 +36,38 @@ module _ (tables : Tables) (row : ℕ) (s c : List ℕ) where
       go true e h = (e, h)
       go false e h = absurd (false≢true (sym e ∙ h))
 
+  abbrev number : List ℕ
+  number = fieldOf s 39
+
+  abbrev quantity : ℕ
+  quantity = valueOf (decimalOf 15 4 (fieldOf s 22))
+
+  abbrev side : ℕ
+  side = letter (fieldOf s 7)
+
+  abbrev named : ℕ
+  named = namedRow c (fieldOf s 16)
+
+  -- such a step has all that a law of bookings asks
+  asked : {A : Type 0} → isEmpty (stepFailures tables row s c) ≡ true
+      → (nameUpTo numberRoom number ≡ true → quantity ≤ largestQuantity → isSide side ≡ true → freeRow c ≡ freeRow c → freeRow c < rowCount
+      → rowByNumber c number ≡ rowCount → (named < rowCount → state (rowsOf c named) ≡ live) → A)
+      → A
+  asked e law =
+      let passed = step-passed e in
+      law (number-passed (tables .reporters) (isMoney (tables .currencies)) row (fieldOf s) (passed .0)) (omega (arith, value-below 15 4 (fieldOf s 22)))
+      (side-passed (tables .reporters) (isMoney (tables .currencies)) row (fieldOf s) (passed .0)) refl
+      (row-free c (fieldOf s 16) number (passed .1)) (number-new c (fieldOf s 16) number (passed .1)) (named-live c (fieldOf s 16))
+
   pub step-sound : soundCompartment c ≡ true → soundCompartment (stepCompartment tables row s c) ≡ true
   unfolding stepCompartment bookedAs bookingOf
   step-sound sound = go (isEmpty (stepFailures tables row s c)) refl
     where
-      go : (b : Bool) → isEmpty (stepFailures tables row s c) ≡ b
-          → soundCompartment (cond b (bookedAs (freeRow c) (namedRow c (fieldOf s 16)) s c) c) ≡ true
-      go true e =
-          let passed = step-passed e in
-          booked-sound (freeRow c) (fieldOf s 39) (valueOf (decimalOf 15 4 (fieldOf s 22))) (letter (fieldOf s 7)) (namedRow c (fieldOf s 16)) c sound
-          (number-passed (tables .reporters) (isMoney (tables .currencies)) row (fieldOf s) (passed .0)) (omega (arith, value-below 15 4 (fieldOf s 22)))
-          (side-passed (tables .reporters) (isMoney (tables .currencies)) row (fieldOf s) (passed .0)) refl
-          (row-free c (fieldOf s 16) (fieldOf s 39) (passed .1)) (number-new c (fieldOf s 16) (fieldOf s 39) (passed .1)) (named-live c (fieldOf s 16))
+      go : (b : Bool) → isEmpty (stepFailures tables row s c) ≡ b → soundCompartment (cond b (bookedAs (freeRow c) named s c) c) ≡ true
+      go true e = asked e (booked-sound (freeRow c) number quantity side named c sound)
       go false e = sound
+
+  pub step-cancels : soundCompartment c ≡ true → isEmpty (stepFailures tables row s c) ≡ true → named < rowCount
+      → state (rowsOf (stepCompartment tables row s c) named) ≡ cancelled
+  unfolding stepCompartment bookedAs bookingOf
+  step-cancels sound e h = rw e (asked e (named-cancelled (freeRow c) number quantity side named c sound) h)

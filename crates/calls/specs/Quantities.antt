@@ -6,10 +6,14 @@ use mathlib.Core.List.{List}
 use mathlib.Core.Path.{_≡_}
 use Rattle.frame.specs.Parts.{put}
 use Rattle.frame.specs.Isolation.{single}
+use Rattle.failures.specs.Failures.{isEmpty}
+use Rattle.fields.specs.Fields.{fieldOf}
 use Rattle.tables.specs.Tables.{Tables}
-use Rattle.ledger.specs.Sound.{compartmentSize, compartment, soundLedger}
+use Rattle.ledger.specs.Row.{cancelled, state}
+use Rattle.ledger.specs.Sound.{compartmentSize, compartment, rowsOf, soundLedger}
 use Rattle.ledger.specs.Quantity.{withQuantityAt}
-use Rattle.calls.specs.Call.{Call}
+use Rattle.checks.specs.Booking.{namedRow}
+use Rattle.calls.specs.Call.{Call, stepFailures, stepCompartment}
 use Rattle.calls.specs.Rules.{rules}
 
 -- the ledger with the quantity q in row k of bank r
@@ -19,5 +23,9 @@ ledgerWithQuantity r k q l = put compartmentSize r (withQuantityAt k q (compartm
 pub record AnyQuantity (tables : Tables) (r k q : ℕ) (l : List ℕ) : Type 0 where
   -- it is sound
   pub sound : soundLedger (ledgerWithQuantity r k q l) ≡ true
-  -- every call is answered as without it: the row can be cancelled where it could
+  -- every call gets the reply that it gets without it, one that names the row too
   pub replies : (call : Call) → single (rules tables) call (ledgerWithQuantity r k q l) .reply ≡ single (rules tables) call l .reply
+  -- and a record that names the row and is booked leaves it cancelled
+  pub cancels : (reporter : ℕ) (s : List ℕ) → isEmpty (stepFailures tables reporter s (withQuantityAt k q (compartment r l))) ≡ true
+      → namedRow (withQuantityAt k q (compartment r l)) (fieldOf s 16) ≡ k
+      → state (rowsOf (stepCompartment tables reporter s (withQuantityAt k q (compartment r l))) k) ≡ cancelled

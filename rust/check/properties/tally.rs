@@ -1,6 +1,7 @@
 //! Counting: cases in groups, hits of places, refusals, what error files show, what sums end in and
 //! where zero was seen, and the verdict.
 
+use std::fmt::Display;
 use std::time::Instant;
 
 use roselhanda::raw;
@@ -381,26 +382,24 @@ impl Check {
             );
             self.count(ok);
         }
-        println!("\n{:<43} {:>9}", "error files with", "hits");
-        for (hits, (name, _)) in self.sights.into_iter().zip(SIGHTS) {
-            let ok = hits >= FEWEST_HITS;
-            println!("{name:<43} {hits:>9}{}", if ok { "" } else { "  TOO FEW" });
-            self.count(ok);
-        }
-        println!("\n{:<43} {:>9}", "sums that end in", "hits");
-        for (digit, hits) in self.sums.into_iter().enumerate() {
-            let ok = hits >= FEWEST_HITS;
-            println!("{digit:<43} {hits:>9}{}", if ok { "" } else { "  TOO FEW" });
-            self.count(ok);
-        }
-        println!("\n{:<43} {:>9}", "zero", "hits");
-        for (hits, name) in self.zeros.into_iter().zip(ZEROS) {
-            let ok = hits >= FEWEST_HITS;
-            println!("{name:<43} {hits:>9}{}", if ok { "" } else { "  TOO FEW" });
-            self.count(ok);
-        }
+        let sights = SIGHTS.map(|(name, _)| name).into_iter().zip(self.sights);
+        self.table("error files with", sights);
+        let sums = self.sums.into_iter().enumerate();
+        self.table("sums that end in", sums);
+        let zeros = ZEROS.into_iter().zip(self.zeros);
+        self.table("zero", zeros);
         println!();
         (self.passed, self.failed)
+    }
+
+    /// Prints a table of hits, and counts each row.
+    fn table(&mut self, title: &str, rows: impl Iterator<Item = (impl Display, u64)>) {
+        println!("\n{title:<43} {:>9}", "hits");
+        for (name, hits) in rows {
+            let ok = hits >= FEWEST_HITS;
+            println!("{name:<43} {hits:>9}{}", if ok { "" } else { "  TOO FEW" });
+            self.count(ok);
+        }
     }
 
     /// Counts what passed or failed.
