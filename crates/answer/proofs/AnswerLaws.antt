@@ -153,6 +153,13 @@ module _ (at : ℕ) (a : Answer) (s : List ℕ) (fits : at + answerSize ≤ leng
       sym (answer-in at written room (sym failed) (sym code) (sym booked) (sym len))
       ∙ rw (byte-stands (at + 10) (a .row) written _ row-stands, byte-stands (at + 11) (a .status) written _ status-stands)
 
+-- the set of an answer's bytes is the answer's
+pub set-read : (a : Answer) → a .failed .bits < 2 ^ 64 → answerAt 0 (answerBytes a) .failed ≡ a .failed
+unfolding answerAt answerBytes
+set-read a h =
+    let room : 0 + answerSize ≤ length (answerBytes a) = rw answer-length (omega arith) in
+    rw (le-leb _ _ room) (ap (λ (w : ℕ). record { bits = w }) (number-stands 8 0 (a .failed .bits) (answerBytes a) _ (omega arith) (omega arith) refl))
+
 -- answers that are not there are all alike
 answer-none : (s : List ℕ) (at : ℕ) → length s < at + answerSize → answerAt at s ≡ zeroAnswer
 unfolding answerAt

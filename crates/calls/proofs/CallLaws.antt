@@ -2,7 +2,7 @@
 -- Assumes nothing.
 use Prim.Native.Nat.{ℕ, _*_, _+_, _-_, _≤_, _<_}
 use native.Mathlib.Omega.{arith}
-use mathlib.Core.Bool.{Bool, true, false, not, cond}
+use mathlib.Core.Bool.{Bool, true, false, not, cond, false≢true}
 use mathlib.Core.List.{List, [], _∷_, _++_}
 use mathlib.Core.Logic.{_≢_}
 use mathlib.Core.Path.{_≡_, refl, ap, sym, _∙_}
@@ -11,12 +11,13 @@ use lib.Dec.{eqb, leb}
 use lib.ListN.{length, take, drop}
 use Rattle.frame.specs.Every.{least}
 use Rattle.frame.specs.Isolation as I
-use Rattle.frame.specs.Parts.{part, put}
+use Rattle.frame.specs.Isolation.{Outcome}
+use Rattle.frame.specs.Parts.{put}
 use Rattle.frame.specs.Reply as R
 use Rattle.frame.specs.Reply.{firstOf}
 use Rattle.frame.proofs.BoolLaws.{and-left}
 use Rattle.frame.proofs.LeastLaws.{least-le}
-use Rattle.frame.proofs.PartLaws.{part-lent, put-lent}
+use Rattle.frame.proofs.PartLaws.{part-lent, put-lent, put-own}
 use Rattle.frame.proofs.ReplyLaws.{unless-holds, unless-none, unless-never, first-applies, first-passes, first-end, test-applies, test-passes}
 use Rattle.frame.proofs.ReplyLaws.{first-none, end-never, first-never}
 use Rattle.frame.proofs.Isolation.{single-refused, single-stranger, single-step}
@@ -31,20 +32,23 @@ use Rattle.tables.proofs.FlawLaws.{reporters-refuse, currencies-refuse, tables-
 use Rattle.tables.specs.Currencies.{currenciesOk, isMoney, foundMoney}
 use Rattle.tables.proofs.CurrencyLaws.{found-money}
 use Rattle.tables.proofs.ReporterLaws.{rows-below}
-use Rattle.ledger.specs.Sound.{bankCount, ledgerSize, compartmentSize, rowCount, rowsOf, soundLedger, ledgerFlaw}
+use Rattle.ledger.specs.Sound.{bankCount, compartmentSize, compartment, rowCount, rowsOf, soundLedger, ledgerFlaw}
 use Rattle.ledger.specs.Lookup.{isFree, freeRow}
+use Rattle.ledger.proofs.LedgerLaws.{flawless, ledger-size}
 use Rattle.sender.specs.declared.Checked.{Checked}
 use Rattle.sender.specs.declared.Checked.the-variants.{Passed, Failed}
 use Rattle.sender.specs.Sender.{senderCheck}
-use Rattle.sender.proofs.SenderLaws.{passed-row}
+use Rattle.sender.proofs.SenderLaws.{passed-row, failed-some}
 use Rattle.checks.specs.declared.Booking.{Booking}
 use Rattle.checks.specs.Record.{recordFailures}
-use Rattle.checks.specs.Booking.{bookingOf}
-use Rattle.checks.specs.Verdict.{failuresFrom7}
+use Rattle.checks.specs.Booking.{namedRow, bookingOf}
+use Rattle.checks.specs.Verdict.{failuresOn}
 use Rattle.answer.specs.declared.Answer.{Answer}
 use Rattle.answer.specs.Answer.{answerBytes}
 use Rattle.calls.specs.Call.{Call, called, recordLimit, noReporter, noRow, rowOf, failedOf, recordForm, callFlaw, refusalOf, checkedOf, answerOf}
-use Rattle.calls.specs.Call.{bookedAs, foundRows, stepFailures, stepAnswer, stepCompartment}
+use Rattle.calls.specs.Call.{formalIn, formalBy, formalOf, bookedAs, foundRows, stepFailures, stepAnswer, stepCompartment}
+use Rattle.calls.specs.CallSteps.{Judged}
+use Rattle.calls.specs.declared.judging.Formal.{Formal}
 use Rattle.calls.specs.Rules.{rules}
 
 -- What code finds that tests the tables and the ledger which it is lent, ns being the refusals behind these.
@@ -113,13 +117,6 @@ record-short s h = leb-true _ _ (and-left (leb (length s) recordLimit) _ h)
 pub indexed : (s stops : List ℕ) → stops ≡ stopsOf s → (n : ℕ) → fieldBy s stops n ≡ fieldOf s n
 indexed s stops e n = ap (λ (t : List ℕ). fieldBy s t n) e ∙ field-by s n
 
--- the sender check on what the index gives
-pub checked-same : (tables : Tables) (sender s stops : List ℕ) {whole : Bool} {f1 f2 : List ℕ} {r : Checked} → stops ≡ stopsOf s → whole ≡ isWholeIndex stops
-    → f1 ≡ fieldBy s stops 1 → f2 ≡ fieldBy s stops 2 → r ≡ senderCheck (tables .reporters) sender whole f1 f2 → r ≡ checkedOf tables (called sender s)
-unfolding checkedOf
-checked-same tables sender s stops e w p q r =
-    r ∙ (λ i. senderCheck (tables .reporters) sender ((w ∙ ap isWholeIndex e ∙ whole-index s) i) ((p ∙ indexed s stops e 1) i) ((q ∙ indexed s stops e 2) i))
-
 -- the row for which a record passes is a bank's
 pub passed-bank : (tables : Tables) (call : Call) {row : ℕ} → reportersOk (tables .reporters) ≡ true → checkedOf tables call ≡ Passed row → row < bankCount
 unfolding checkedOf
@@ -127,15 +124,67 @@ passed-bank tables call ok e =
     let s = call .«record» in
     omega (arith, rows-below (tables .reporters) ok, passed-row (tables .reporters) (call .sender) (isWhole s) (fieldOf s 1) (fieldOf s 2) e .1)
 
--- the failures of places 7 to 60
-abbrev pub failuresTo60 : Tables → ℕ → List ℕ → Failures
-failuresTo60 tables row s = recordFailures (tables .reporters) (isMoney (tables .currencies)) row (fieldOf s)
+-- places 0 to 60 by what the sender check has found of whether the record is whole and of its first two fields
+pub formal-by : (reporters : List ℕ) (money : List ℕ → Bool) (sender : List ℕ) (F : ℕ → List ℕ) {whole w : Bool} {f1 f2 : List ℕ} {k : Checked} {formal : Formal}
+    → w ≡ whole → f1 ≡ F 1 → f2 ≡ F 2 → k ≡ senderCheck reporters sender w f1 f2 → formal ≡ formalIn reporters money F k
+    → formal ≡ formalBy reporters money sender whole F
+unfolding formalBy
+formal-by reporters money sender F w p q e f = f ∙ ap (formalIn reporters money F) (e ∙ (λ i. senderCheck reporters sender (w i) (p i) (q i)))
 
--- these on what the index gives, with a search of the currency list in order
-pub record-same : (tables : Tables) (row : ℕ) (s stops : List ℕ) → stops ≡ stopsOf s → currenciesOk (tables .currencies) ≡ true
-    → recordFailures (tables .reporters) (foundMoney (tables .currencies)) row (fieldBy s stops) ≡ failuresTo60 tables row s
-record-same tables row s stops e ok =
-    λ i. recordFailures (tables .reporters) (λ f. found-money (tables .currencies) f ok i) row (λ n. indexed s stops e n i)
+-- places 0 to 60 on what the index gives, with a search of the currency list in order
+pub formal-same : (tables : Tables) (sender s stops : List ℕ) {formal : Formal} → stops ≡ stopsOf s → currenciesOk (tables .currencies) ≡ true
+    → formal ≡ formalBy (tables .reporters) (foundMoney (tables .currencies)) sender (isWholeIndex stops) (fieldBy s stops)
+    → formal ≡ formalOf tables (called sender s)
+unfolding formalBy formalOf checkedOf
+formal-same tables sender s stops e ok f =
+    f ∙ (λ i. formalBy (tables .reporters) (λ g. found-money (tables .currencies) g ok i) sender ((ap isWholeIndex e ∙ whole-index s) i)
+    (λ n. indexed s stops e n i))
+
+-- places 0 to 60 by what the sender check finds
+module _ (tables : Tables) (call : Call) where
+  abbrev judged : Checked → Formal
+  judged = formalIn (tables .reporters) (isMoney (tables .currencies)) (fieldOf (call .«record»))
+
+  pub formal-at : {k : Checked} → checkedOf tables call ≡ k → formalOf tables call ≡ judged k
+  unfolding formalOf
+  formal-at q = ap judged q
+
+  -- a record that does not pass it has a failure
+  pub stranger-fails : {failed : Failures} → checkedOf tables call ≡ Failed failed → isEmpty failed ≡ false
+  unfolding checkedOf
+  stranger-fails q = let s = call .«record» in failed-some (tables .reporters) (call .sender) (isWhole s) (fieldOf s 1) (fieldOf s 2) q
+
+  -- so a record without one passes it, and has none at places 7 to 60
+  pub formal-passed : isEmpty (formalOf tables call .failed) ≡ true → let row = formalOf tables call .row in
+      (checkedOf tables call ≡ Passed row) × (isEmpty (recordFailures (tables .reporters) (isMoney (tables .currencies)) row (fieldOf (call .«record»))) ≡ true)
+  formal-passed = go (checkedOf tables call) refl
+    where
+      go : (k : Checked) → checkedOf tables call ≡ k → isEmpty (formalOf tables call .failed) ≡ true → let row = formalOf tables call .row in
+          (checkedOf tables call ≡ Passed row)
+          × (isEmpty (recordFailures (tables .reporters) (isMoney (tables .currencies)) row (fieldOf (call .«record»))) ≡ true)
+      go (Passed row) q h = let f = formal-at q in rw f (q, rw f at h)
+      go (Failed failed) q h = absurd (false≢true (sym (stranger-fails q) ∙ ap (λ (f : Formal). isEmpty (f .failed)) (sym (formal-at q)) ∙ h))
+
+  -- the row fits an answer
+  formal-small : reportersOk (tables .reporters) ≡ true → formalOf tables call .row < 256
+  formal-small ok = go (checkedOf tables call) refl
+    where
+      go : (k : Checked) → checkedOf tables call ≡ k → formalOf tables call .row < 256
+      go (Passed row) q = let b : row < bankCount = passed-bank tables call ok q in rw (formal-at q) (omega arith)
+      go (Failed failed) q = rw (formal-at q) (omega arith)
+
+  -- what is asked before the ledger is looked into, of a call that is not refused
+  pub judged-ready : {formal : Formal} (stops l : List ℕ) → refusalOf tables call (ledgerFlaw l) ≡ 0 → stops ≡ stopsOf (call .«record»)
+      → formal ≡ formalOf tables call → Judged formal (call .«record») stops l
+  judged-ready stops l free e f =
+      let ok = accepted tables call (ledgerFlaw l) free in
+      record {
+        row = rw f (formal-small (ok .listed));
+        bank = λ none. rw f (passed-bank tables call (ok .listed) (formal-passed (rw f at none) .0));
+        short = record-short _ (ok .formed);
+        indexed = e;
+        sized = ledger-size l (flawless l (ok .kept));
+      }
 
 free-row-le : (c : List ℕ) → freeRow c ≤ rowCount
 unfolding freeRow
@@ -149,67 +198,138 @@ pub free-small : (c f16 f39 : List ℕ) {found : Booking} → found ≡ bookingO
 unfolding bookingOf
 free-small c f16 f39 e = rw e (omega (arith, free-row-le c))
 
--- the step: what it has judged decides its answer and the compartment afterwards
-module _ (tables : Tables) (row : ℕ) (s c : List ℕ) where
-  pub failures-judged : {failed : Failures} → failed ≡ failuresTo60 tables row s → isEmpty failed ≡ false → failed ≡ stepFailures tables row s c
-  unfolding stepFailures failuresFrom7
-  failures-judged e n = e ∙ rw (sym (ap isEmpty e) ∙ n) refl
+-- the step: what is judged of a record decides its answer and the compartment afterwards
+module _ (formal : Formal) (s c : List ℕ) where
+  -- one of places 0 to 60 fails: these are the failures, and 61 to 63 are not judged
+  pub failures-judged : isEmpty (formal .failed) ≡ false → stepFailures formal s c ≡ formal .failed
+  unfolding stepFailures failuresOn
+  failures-judged n = rw n refl
 
-  pub failures-found : {judged failed : Failures} {found : Booking} → judged ≡ failuresTo60 tables row s → isEmpty judged ≡ true
-      → found ≡ foundRows tables row s c → failed ≡ found .failed → failed ≡ stepFailures tables row s c
-  unfolding stepFailures failuresFrom7
-  failures-found e z g f = f ∙ ap (λ (b : Booking). b .failed) g ∙ rw (sym (ap isEmpty e) ∙ z) refl
+  -- none does: the failures are those of 61 to 63
+  pub failures-found : {found : Booking} → isEmpty (formal .failed) ≡ true → found ≡ foundRows formal s c → found .failed ≡ stepFailures formal s c
+  unfolding stepFailures failuresOn
+  failures-found n g = rw (n, g) refl
 
-  pub step-failed : {failed : Failures} {a : Answer} → failed ≡ stepFailures tables row s c → isEmpty failed ≡ false
-      → a ≡ answerOf failed row noRow s → (a ≡ stepAnswer tables row s c) × (c ≡ stepCompartment tables row s c)
-  unfolding stepAnswer stepCompartment
-  step-failed e n h =
-      let z : isEmpty (stepFailures tables row s c) ≡ false = rw (← e) n in
-      (h ∙ rw (e, z) refl, rw z refl)
+  -- an answer that tells them, by the code's finding: with a failure no new row, else the free one; and the row that is cancelled then is the named one
+  pub foreseen-failed : {failed : Failures} {a : Answer} {named : ℕ} → failed ≡ stepFailures formal s c → isEmpty failed ≡ false
+      → a ≡ answerOf failed (formal .row) noRow s
+      → (a ≡ stepAnswer formal s c) × (isEmpty (stepFailures formal s c) ≡ true → named ≡ namedRow c (fieldOf s 16))
+  unfolding stepAnswer
+  foreseen-failed e n h =
+      let z : isEmpty (stepFailures formal s c) ≡ false = rw (← e) n in
+      (h ∙ rw (e, z) refl, λ y. absurd (false≢true (sym z ∙ y)))
 
-  pub step-booked : {failed : Failures} {found : Booking} {a : Answer} {d : List ℕ} → failed ≡ stepFailures tables row s c → isEmpty failed ≡ true
-      → found ≡ foundRows tables row s c → a ≡ answerOf failed row (found .free) s → d ≡ bookedAs (found .free) (found .named) s c
-      → (a ≡ stepAnswer tables row s c) × (d ≡ stepCompartment tables row s c)
-  unfolding stepAnswer stepCompartment
-  step-booked e n g h k =
-      let z : isEmpty (stepFailures tables row s c) ≡ true = rw (← e) n in
-      (h ∙ rw (e, z, g) refl, k ∙ rw (z, g) refl)
+  pub foreseen-passed : {failed : Failures} {found : Booking} {a : Answer} → failed ≡ stepFailures formal s c → isEmpty failed ≡ true
+      → found ≡ foundRows formal s c → a ≡ answerOf failed (formal .row) (found .free) s
+      → (a ≡ stepAnswer formal s c) × (isEmpty (stepFailures formal s c) ≡ true → found .named ≡ namedRow c (fieldOf s 16))
+  unfolding stepAnswer bookingOf
+  foreseen-passed e n g h =
+      let z : isEmpty (stepFailures formal s c) ≡ true = rw (← e) n in
+      (h ∙ rw (e, z, g) refl, λ y. ap (λ (b : Booking). b .named) g)
 
--- The three outcomes of a call, on the ledger that it is lent.
+  -- the failures and the new row that an answer tells
+  pub answer-failures : {a : Answer} → a ≡ stepAnswer formal s c → a .failed ≡ stepFailures formal s c
+  unfolding stepAnswer answerOf
+  answer-failures h = ap (λ (w : Answer). w .failed) h
+
+  -- one without a failure has none at places 0 to 60
+  pub answer-passed : {a : Answer} → a ≡ stepAnswer formal s c → isEmpty (a .failed) ≡ true → isEmpty (formal .failed) ≡ true
+  answer-passed e n = go (isEmpty (formal .failed)) refl
+    where
+      go : (b : Bool) → isEmpty (formal .failed) ≡ b → isEmpty (formal .failed) ≡ true
+      go true h = h
+      go false h = absurd (false≢true (sym h ∙ ap isEmpty (sym (failures-judged h) ∙ sym (answer-failures e)) ∙ n))
+
+  pub step-failed : isEmpty (stepFailures formal s c) ≡ false → stepCompartment formal s c ≡ c
+  unfolding stepCompartment
+  step-failed n = rw n refl
+
+  pub step-booked : {a : Answer} {named : ℕ} {d : List ℕ} → isEmpty (stepFailures formal s c) ≡ true → a ≡ stepAnswer formal s c
+      → named ≡ namedRow c (fieldOf s 16) → d ≡ bookedAs (a .booked) named s c → d ≡ stepCompartment formal s c
+  unfolding stepAnswer stepCompartment answerOf bookingOf
+  step-booked n h g k = k ∙ rw (h, g, n) refl
+
+-- the same on a ledger that lends the compartment of the record's row
+module _ (formal : Formal) (s l : List ℕ) where
+  abbrev c : List ℕ
+  c = compartment (formal .row) l
+
+  -- what is lent of a ledger of its length, for a bank's row
+  abbrev start : ℕ
+  start = formal .row * compartmentSize
+
+  abbrev lentPart : List ℕ
+  lentPart = take (start + compartmentSize - start) (drop start l)
+
+  -- what 61 to 63 find there, by the index
+  pub rows-found : {found : Booking} {f16 f39 : List ℕ} → start + compartmentSize ≤ length l → f16 ≡ fieldOf s 16 → f39 ≡ fieldOf s 39
+      → found ≡ bookingOf lentPart f16 f39 → found ≡ foundRows formal s c
+  rows-found inside p q e = e ∙ (λ i. bookingOf (part-lent compartmentSize (formal .row) l inside .0 i) (p i) (q i))
+
+  -- an answer with a failure leaves the ledger; one without has its compartment booked, and put back in its place
+  pub settled-failed : {a : Answer} → a ≡ stepAnswer formal s c → isEmpty (a .failed) ≡ false → l ≡ put compartmentSize (formal .row) (stepCompartment formal s c) l
+  settled-failed e n =
+      let some : isEmpty (stepFailures formal s c) ≡ false = ap isEmpty (sym (answer-failures formal s c e)) ∙ n in
+      sym (ap (λ (d : List ℕ). put compartmentSize (formal .row) d l) (step-failed formal s c some) ∙ put-own compartmentSize (formal .row) l)
+
+  pub settled-booked : {a : Answer} {named : ℕ} {d : List ℕ} → start + compartmentSize ≤ length l → a ≡ stepAnswer formal s c → isEmpty (a .failed) ≡ true
+      → (isEmpty (stepFailures formal s c) ≡ true → named ≡ namedRow c (fieldOf s 16)) → d ≡ bookedAs (a .booked) named s lentPart
+      → take start l ++ (d ++ drop (start + compartmentSize - start) (drop start l)) ≡ put compartmentSize (formal .row) (stepCompartment formal s c) l
+  settled-booked {a} {named} {d} inside e n g k =
+      let none : isEmpty (stepFailures formal s c) ≡ true = ap isEmpty (sym (answer-failures formal s c e)) ∙ n in
+      let there = k ∙ ap (bookedAs (a .booked) named s) (part-lent compartmentSize (formal .row) l inside .0) in
+      put-lent compartmentSize (formal .row) d l
+      ∙ ap (λ (w : List ℕ). put compartmentSize (formal .row) w l) (step-booked formal s c none e (g none) there)
+
+-- The two outcomes of a call, on the ledger that it is lent.
 module _ (tables : Tables) (call : Call) (l : List ℕ) where
   pub call-refused : {n : ℕ} → n ≡ refusalOf tables call (ledgerFlaw l) → n ≢ 0 → record { reply = R.refused n; store = l } ≡ I.single (rules tables) call l
   call-refused {n} e ne = sym (single-refused (rules tables) call l n (sym e) ne)
 
-  module _ (e : refusalOf tables call (ledgerFlaw l) ≡ 0) {k : Checked} (q : k ≡ checkedOf tables call) where
-    pub call-stranger : {failed : Failures} {a : Answer} → k ≡ Failed failed → a ≡ answerOf (failedOf k) noReporter noRow (call .«record»)
-        → record { reply = R.accepted (answerBytes a); store = l } ≡ I.single (rules tables) call l
-    call-stranger f r =
-        let none : rowOf (checkedOf tables call) ≡ noReporter = ap rowOf (sym q ∙ f) in
-        ap (λ (w : Answer). record { reply = R.accepted (answerBytes w); store = l })
-        (r ∙ ap (λ (m : Checked). answerOf (failedOf m) noReporter noRow (call .«record»)) q)
-        ∙ sym (single-stranger (rules tables) call l e (rw none (omega arith)))
+  -- one that is not refused is answered, and leaves its bank's compartment, as its step says; for a record that passes for no bank that changes nothing
+  pub call-settled : refusalOf tables call (ledgerFlaw l) ≡ 0 → let formal = formalOf tables call in let c = compartment (formal .row) l in
+      record {
+        reply = R.accepted (answerBytes (stepAnswer formal (call .«record») c));
+        store = put compartmentSize (formal .row) (stepCompartment formal (call .«record») c) l;
+      } ≡ I.single (rules tables) call l
+  call-settled e = go (checkedOf tables call) refl
+    where
+      s : List ℕ
+      s = call .«record»
 
-    -- the compartment is lent as a part of the ledger, and comes back into its place
-    pub call-step : {row : ℕ} {a : Answer} {d : List ℕ} → k ≡ Passed row → row < bankCount → length l ≡ ledgerSize
-        → let lent = take (row * compartmentSize + compartmentSize - row * compartmentSize) (drop (row * compartmentSize) l) in
-        a ≡ stepAnswer tables row (call .«record») lent → d ≡ stepCompartment tables row (call .«record») lent
-        → record {
-          reply = R.accepted (answerBytes a);
-          store =
-              take (row * compartmentSize) l
-              ++ (d ++ drop (row * compartmentSize + compartmentSize - row * compartmentSize) (drop (row * compartmentSize) l));
-        } ≡ I.single (rules tables) call l
-    call-step {row} {a} {d} p h long b m =
-        let inside : row * compartmentSize + compartmentSize ≤ length l = omega arith in
-        let lent = part-lent compartmentSize row l inside .0 in
-        let bank : rowOf (checkedOf tables call) ≡ row = ap rowOf (sym q ∙ p) in
-        ap (λ (w : List ℕ). record { reply = R.accepted (answerBytes a); store = w }) (put-lent compartmentSize row d l)
-        ∙ (λ i. record {
-          reply = R.accepted (answerBytes ((b ∙ ap (stepAnswer tables row (call .«record»)) lent) i));
-          store = put compartmentSize row ((m ∙ ap (stepCompartment tables row (call .«record»)) lent) i) l;
-        })
-        ∙ (λ i. record {
-          reply = R.accepted (answerBytes (stepAnswer tables (sym bank i) (call .«record») (part compartmentSize row l)));
-          store = put compartmentSize row (stepCompartment tables (sym bank i) (call .«record») (part compartmentSize row l)) l;
-        })
-        ∙ sym (single-step (rules tables) call l row e bank h)
+      settled : Formal → Outcome (List ℕ) (List ℕ)
+      settled formal = record {
+        reply = R.accepted (answerBytes (stepAnswer formal s (compartment (formal .row) l)));
+        store = put compartmentSize (formal .row) (stepCompartment formal s (compartment (formal .row) l)) l;
+      }
+
+      unchanged : (formal : Formal) → isEmpty (formal .failed) ≡ false
+          → settled formal ≡ record { reply = R.accepted (answerBytes (answerOf (formal .failed) (formal .row) noRow s)); store = l }
+      unchanged formal some =
+          let c : List ℕ = compartment (formal .row) l in
+          let still = step-failed formal s c (ap isEmpty (failures-judged formal s c some) ∙ some) in
+          λ i. record {
+            reply = R.accepted (answerBytes (sym (foreseen-failed formal s c {named = 0} (sym (failures-judged formal s c some)) some refl .0) i));
+            store = (ap (λ (d : List ℕ). put compartmentSize (formal .row) d l) still ∙ put-own compartmentSize (formal .row) l) i;
+          }
+
+      go : (k : Checked) → checkedOf tables call ≡ k → settled (formalOf tables call) ≡ I.single (rules tables) call l
+      go (Passed row) q =
+          let bank : rowOf (checkedOf tables call) ≡ formalOf tables call .row = ap rowOf q ∙ ap (λ (f : Formal). f .row) (sym (formal-at tables call q)) in
+          let inside : formalOf tables call .row < bankCount
+          = rw (formal-at tables call q) (passed-bank tables call (accepted tables call (ledgerFlaw l) e .listed) q) in
+          sym (single-step (rules tables) call l _ e bank inside)
+      go (Failed failed) q =
+          let none : bankCount ≤ rowOf (checkedOf tables call) = rw q (omega arith) in
+          let formal : Formal = record { row = noReporter; failed = failed } in
+          ap settled (formal-at tables call q)
+          ∙ unchanged formal (stranger-fails tables call q)
+          ∙ ap (λ (k : Checked). record { reply = R.accepted (answerBytes (answerOf (failedOf k) noReporter noRow s)); store = l }) (sym q)
+          ∙ sym (single-stranger (rules tables) call l e none)
+
+  -- the outcome that code leaves which has settled places 0 to 60
+  pub settled-call : {formal : Formal} {a : Answer} {m : List ℕ} → refusalOf tables call (ledgerFlaw l) ≡ 0 → formal ≡ formalOf tables call
+      → a ≡ stepAnswer formal (call .«record») (compartment (formal .row) l)
+      → m ≡ put compartmentSize (formal .row) (stepCompartment formal (call .«record») (compartment (formal .row) l)) l
+      → record { reply = R.accepted (answerBytes a); store = m } ≡ I.single (rules tables) call l
+  settled-call e f h k = rw (h, k, f) (call-settled e)

@@ -1,5 +1,6 @@
 pub mod CallLaws
 pub mod StepLaws
+pub mod JudgingLaws
 pub mod Demand3
 pub mod Quantities
 pub mod ListLaws

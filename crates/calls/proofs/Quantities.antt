@@ -18,25 +18,29 @@ use Rattle.ledger.specs.Quantity.{withQuantityAt}
 use Rattle.ledger.proofs.LedgerLaws.{flaw-none, sound-part, own-put, other-put, put-sound}
 use Rattle.ledger.proofs.QuantityLaws.{quantity-sound, quantity-free, quantity-number, quantity-live}
 use Rattle.checks.specs.Booking.{namedRow, bookingTests, bookingOf}
-use Rattle.checks.specs.Verdict.{failuresFrom7}
+use Rattle.checks.specs.Verdict.{failuresOn}
 use Rattle.checks.proofs.PassedLaws.{quantity-passed}
 use Rattle.answer.specs.Answer.{answerBytes}
-use Rattle.calls.specs.Call.{checkedOf, rowOf, stepFailures, stepAnswer}
+use Rattle.calls.specs.declared.judging.Formal.{Formal}
+use Rattle.calls.specs.Call.{Call, checkedOf, rowOf, formalOf, stepFailures, stepAnswer}
 use Rattle.calls.specs.Rules.{rules}
 use Rattle.calls.specs.Quantities.{ledgerWithQuantity, AnyQuantity}
+use Rattle.calls.proofs.CallLaws.{formal-passed}
 use Rattle.calls.proofs.StepLaws.{step-passed, step-cancels}
 
 module _ (tables : Tables) where
   -- A record that is booked has a quantity above zero.
-  pub booked-not-zero : (row : ℕ) (s c : List ℕ) → isEmpty (stepFailures tables row s c) ≡ true → 0 < valueOf (decimalOf 15 4 (fieldOf s 22))
-  booked-not-zero row s c passed =
-      quantity-passed (tables .reporters) (isMoney (tables .currencies)) row (fieldOf s) (step-passed tables row s c passed .0)
+  pub booked-not-zero : (call : Call) (c : List ℕ) → isEmpty (stepFailures (formalOf tables call) (call .«record») c) ≡ true
+      → 0 < valueOf (decimalOf 15 4 (fieldOf (call .«record») 22))
+  booked-not-zero call c passed =
+      quantity-passed (tables .reporters) (isMoney (tables .currencies)) (formalOf tables call .row) (fieldOf (call .«record»))
+      (formal-passed tables call (step-passed tables call c passed .0) .1)
 
   -- a record is answered alike on two compartments in which the same rows are found
-  found-alike : (row : ℕ) (s c d : List ℕ) → freeRow d ≡ freeRow c → ((n : List ℕ) → rowByNumber d n ≡ rowByNumber c n)
-      → ((n : List ℕ) → liveRow d n ≡ liveRow c n) → stepAnswer tables row s d ≡ stepAnswer tables row s c
-  unfolding stepAnswer stepFailures failuresFrom7 bookingOf bookingTests namedRow
-  found-alike row s c d free number live = rw (free, number (fieldOf s 39), live (fieldOf s 16))
+  found-alike : (formal : Formal) (s c d : List ℕ) → freeRow d ≡ freeRow c → ((n : List ℕ) → rowByNumber d n ≡ rowByNumber c n)
+      → ((n : List ℕ) → liveRow d n ≡ liveRow c n) → stepAnswer formal s d ≡ stepAnswer formal s c
+  unfolding stepAnswer stepFailures failuresOn bookingOf bookingTests namedRow
+  found-alike formal s c d free number live = rw (free, number (fieldOf s 39), live (fieldOf s 16))
 
   -- On every sound ledger, any quantity within its bound in any filled row: the ledger is sound, every call gets the same reply, and the row is cancelled
   -- by a record that names it and is booked.
@@ -48,8 +52,9 @@ module _ (tables : Tables) where
         sound = after-sound;
         replies = λ call.
             let p : ℕ = rowOf (checkedOf tables call) in
-            same-reply (rules tables) call after l (flaw-none after after-sound) (flaw-none l h) (λ inside. ap answerBytes (alike p (call .«record») p inside));
-        cancels = λ reporter s passed e. rw e at (step-cancels tables reporter s d d-sound passed (rw e row));
+            same-reply (rules tables) call after l (flaw-none after after-sound) (flaw-none l h)
+            (λ inside. ap answerBytes (alike (formalOf tables call) (call .«record») p inside));
+        cancels = λ call passed e. rw e at (step-cancels tables call d d-sound passed (rw e row));
       }
     where
       c : List ℕ
@@ -70,13 +75,12 @@ module _ (tables : Tables) where
       after-sound : soundLedger after ≡ true
       after-sound = put-sound l h r bank d d-sound
 
-      alike : (reporter : ℕ) (s : List ℕ) (p : ℕ) → p < bankCount
-          → stepAnswer tables reporter s (compartment p after) ≡ stepAnswer tables reporter s (compartment p l)
-      alike reporter s p inside = go (ℕ-discrete p r)
+      alike : (formal : Formal) (s : List ℕ) (p : ℕ) → p < bankCount → stepAnswer formal s (compartment p after) ≡ stepAnswer formal s (compartment p l)
+      alike formal s p inside = go (ℕ-discrete p r)
         where
-          go : Dec (p ≡ r) → stepAnswer tables reporter s (compartment p after) ≡ stepAnswer tables reporter s (compartment p l)
+          go : Dec (p ≡ r) → stepAnswer formal s (compartment p after) ≡ stepAnswer formal s (compartment p l)
           go (yes e) =
               rw (e, own-put l h r bank d d-sound)
-              (found-alike reporter s c d (quantity-free k q c c-sound row filled) (quantity-number k q c c-sound row filled)
+              (found-alike formal s c d (quantity-free k q c c-sound row filled) (quantity-number k q c c-sound row filled)
               (quantity-live k q c c-sound row filled))
-          go (no n) = ap (stepAnswer tables reporter s) (other-put l h r bank d d-sound p inside n)
+          go (no n) = ap (stepAnswer formal s) (other-put l h r bank d d-sound p inside n)

@@ -28,6 +28,7 @@ use Rattle.calls.specs.Rules.{rules}
 use Rattle.calls.specs.Replied.{outcome}
 use Rattle.calls.specs.Filing.{answersIn, FileOutcome, fileOutcome, carriedOut}
 use Rattle.calls.specs.FileSteps.{callsFrom, Admitted, Ready, Taken, Open}
+use Rattle.calls.proofs.JudgingLaws.{in-a-row-replies, in-a-row-ledger}
 use Rattle.calls.proofs.ListLaws.{answers-append, after-in-order, single-answered}
 
 -- the buffer before and behind answer k, once that is written
@@ -167,5 +168,6 @@ module _ (tables : Tables) where
         = (let e : k + 0 ≡ k = omega arith in rw e (ap (fileOutcome (accepted k) l) (take-append-drop (k * answerSize) a))) in
         let all : ℕ = length (callsFrom sender body 0) in
         let first : carriedOut tables (accepted (callsFrom sender body 0)) l₀ a₀ ≡ outcomeFrom 0 (callsFrom sender body 0) l₀ a₀
-        = (let e : 0 + all ≡ all = omega arith in rw e) in
+        = (let e : 0 + all ≡ all = omega arith in
+        rw (e, in-a-row-ledger tables (callsFrom sender body 0) l₀, in-a-row-replies tables (callsFrom sender body 0) l₀)) in
         sym (first ∙ g .same ∙ rw none last)

@@ -12,7 +12,7 @@ use lib.ListN.{length, drop, replicate}
 use Rattle.frame.specs.Every.{every, least}
 use Rattle.frame.specs.Parts.{part, put}
 use Rattle.frame.specs.Reply.{accepted, unless, past}
-use Rattle.frame.specs.Isolation.{Outcome, single}
+use Rattle.frame.specs.Isolation.{Outcome}
 use Rattle.frame.proofs.Isolation.{single-stranger, single-step}
 use Rattle.frame.proofs.PartLaws.{part-replicate, put-own}
 use Rattle.text.specs.Bytes.{all, same, positionOf}
@@ -50,13 +50,15 @@ use Rattle.underlying.specs.Underlying.{asksUnderlying, isMissing, isTheme, pre
 use Rattle.checks.specs.Record.{clientGroup, tradeGroup, instrumentGroup, termsGroup, capacityGroup, derivativeGroup, underlyingGroup, marksGroup}
 use Rattle.checks.specs.Record.{recordTests, recordFailures}
 use Rattle.checks.specs.Booking.{namedRow, bookingTests, bookingOf}
-use Rattle.checks.specs.Verdict.{failuresFrom7, statusAt}
+use Rattle.checks.specs.Verdict.{failuresOn, statusAt}
 use Rattle.answer.specs.Answer.{answerSize, answerBytes}
 use Rattle.envelope.specs.Pieces.{runOf, begins, textEnd, partEnd, partThen}
 use Rattle.envelope.specs.Body.{crlf, recordsOf, linesAt, bodyAt}
 use Rattle.envelope.specs.Envelope.{fileLimit, headOf, tailOf, bodyStage, envelopeOf, reportOf, recordsFrom}
-use Rattle.calls.specs.Call.{Call, called, recordForm, refusalOf, checkedOf, rowOf, answerOf, stepFailures, stepAnswer, bookedAs, stepCompartment}
+use Rattle.calls.specs.Call.{Call, called, recordForm, refusalOf, checkedOf, rowOf, formalOf, answerOf, stepFailures, stepAnswer, bookedAs}
+use Rattle.calls.specs.Call.{stepCompartment}
 use Rattle.calls.specs.Rules.{rules}
+use Rattle.calls.specs.Judging.{inARow}
 use Rattle.calls.specs.Demand3.{CallsIsolated}
 use Rattle.calls.specs.Filing.{reportCalls, openedReading, readingOf, answersIn, fileOutcome, carriedOut, fileOf}
 use Rattle.calls.specs.Worked.{workedReporters, workedCurrencies, workedTables, workedSender, emptyLedger}
@@ -64,6 +66,7 @@ use Rattle.calls.specs.Worked.{bookedAnswer, r1Answer, r5Answer, future,
 use Rattle.calls.specs.Worked.{r1Row, r1Compartment, blankAnswer, workedFile}
 use Rattle.calls.proofs.CallLaws.{call-passes, accepted-call}
 use Rattle.calls.proofs.Demand3.{demand3}
+use Rattle.calls.proofs.JudgingLaws.{in-a-row}
 use Rattle.calls.proofs.ReadingLaws.{lent-none, reading-on}
 
 -- The worked tables are as document 01 asks, and the all-zero ledger is sound: what theorem demand3 asks can be met.
@@ -91,7 +94,7 @@ second e = head-eq-of-cons-eq (tail-eq-of-cons-eq e)
 
 -- a record called singly by the worked sender on the all-zero ledger
 abbrev calledAlone : List ℕ → Outcome (List ℕ) (List ℕ)
-calledAlone s = single (rules workedTables) (called workedSender s) emptyLedger
+calledAlone s = inARow workedTables (called workedSender s) emptyLedger
 
 abbrev zeros : List ℕ
 zeros = replicate compartmentSize 0
@@ -113,8 +116,8 @@ abbrev computed : List ℕ → Bool × ℕ × List ℕ × List ℕ
 computed s = (
   recordForm s,
   rowOf (checkedOf workedTables (called workedSender s)),
-  answerBytes (stepAnswer workedTables 0 s zeros),
-  stepCompartment workedTables 0 s zeros,
+  answerBytes (stepAnswer (formalOf workedTables (called workedSender s)) s zeros),
+  stepCompartment (formalOf workedTables (called workedSender s)) s zeros,
 )
 
 -- one that is in form and passes for row 0 is answered so, and leaves that compartment
@@ -122,10 +125,11 @@ on-zeros : (s : List ℕ) {answer c : List ℕ} → computed s ≡ (true, 0, ans
     ≡ record { reply = accepted answer; store = put compartmentSize 0 c emptyLedger }
 on-zeros s e =
     let row = ap (λ p. p .1) e in
-    single-step (rules workedTables) (called workedSender s) emptyLedger 0 (not-refused s (ap (λ p. p .0) e)) row (omega arith)
+    in-a-row workedTables (called workedSender s) emptyLedger
+    ∙ single-step (rules workedTables) (called workedSender s) emptyLedger 0 (not-refused s (ap (λ p. p .0) e)) row (omega arith)
     ∙ (λ i. record {
-      reply = accepted (answerBytes (stepAnswer workedTables (row i) s (zeros-part i)));
-      store = put compartmentSize 0 (stepCompartment workedTables (row i) s (zeros-part i)) emptyLedger;
+      reply = accepted (answerBytes (stepAnswer (formalOf workedTables (called workedSender s)) s (zeros-part i)));
+      store = put compartmentSize 0 (stepCompartment (formalOf workedTables (called workedSender s)) s (zeros-part i)) emptyLedger;
     })
     ∙ (λ i. record { reply = accepted (e i .2); store = put compartmentSize 0 (e i .3) emptyLedger })
 
@@ -143,14 +147,14 @@ unfolding workedRecord workedReporters workedCurrencies bookedAnswer r5Answer fu
     fieldEnd fieldPlace fieldOf letter hasCode hasAddress isSpecial isMoney isAmong lacksForm sameParty clientTests venueForm tradeTests instrumentTests
     termsTests namesOwn capacityTests derivativeTests markTests asksUnderlying isMissing isTheme presentTests underlyingTests clientGroup tradeGroup
     instrumentGroup termsGroup capacityGroup derivativeGroup underlyingGroup marksGroup recordTests recordFailures padded newRow entered canBook booked
-    lowBytes numberAt littleEndian freeRow rowByNumber liveRow namedRow bookingTests bookingOf failuresFrom7 statusAt stepFailures answerOf stepAnswer
+    lowBytes numberAt littleEndian freeRow rowByNumber liveRow namedRow bookingTests bookingOf formalOf failuresOn statusAt stepFailures answerOf stepAnswer
     bookedAs stepCompartment answerBytes trailingZeros
 steps = refl
 
 -- R1 is booked in row 0 of compartment 0, and the rest of the ledger stays; R5 is answered with its set, and nothing is booked; a future with 0,125000 as
 -- contract size is booked as R1 is. R1 with the quantity 0,0000 fails at place 34 alone; an option with zero at places 41, 50 and 51 is booked
 pub worked :
-    map (λ r. single (rules workedTables) (called workedSender r) emptyLedger) (r1 ∷ r5 ∷ future ∷ zeroQuantity ∷ zeroTerms ∷ [])
+    map (λ r. inARow workedTables (called workedSender r) emptyLedger) (r1 ∷ r5 ∷ future ∷ zeroQuantity ∷ zeroTerms ∷ [])
     ≡ record { reply = accepted r1Answer; store = put compartmentSize 0 r1Compartment emptyLedger }
     ∷ record { reply = accepted r5Answer; store = emptyLedger }
     ∷ record { reply = accepted futureAnswer; store = put compartmentSize 0 r1Compartment emptyLedger }
@@ -187,7 +191,9 @@ module _ (room : ℕ) (one : answerSize ≤ room) where
 blank-called : calledAlone [] ≡ record { reply = accepted blankAnswer; store = emptyLedger }
 unfolding blankAnswer recordForm all lowBytes checkedOf senderCheck senderTests isWhole semicolonsFrom added addedFrom holds isEmpty answerOf codes codeAt
     statusAt trailingZeros answerBytes
-blank-called = single-stranger (rules workedTables) (called workedSender []) emptyLedger (not-refused [] refl) (omega arith)
+blank-called =
+    in-a-row workedTables (called workedSender []) emptyLedger
+    ∙ single-stranger (rules workedTables) (called workedSender []) emptyLedger (not-refused [] refl) (omega arith)
 
 -- The file call: a body of one CR LF has no record; one of two holds one, answered 9001. Nothing is booked, and the rest of the buffer stays.
 pub worked-bodies : (a : List ℕ) → answerSize ≤ length a → map (λ body. fileOf workedTables (workedFile body) emptyLedger a) (crlf ∷ (crlf ++ crlf) ∷ [])

@@ -22,9 +22,11 @@ use Rattle.sender.specs.declared.Checked.{Checked}
 use Rattle.sender.specs.declared.Checked.the-variants.{Passed, Failed}
 use Rattle.sender.specs.Sender.{senderCheck}
 use Rattle.checks.specs.declared.Booking.{Booking}
+use Rattle.checks.specs.Record.{recordFailures}
 use Rattle.checks.specs.Booking.{bookingOf}
-use Rattle.checks.specs.Verdict.{failuresFrom7, statusOf}
+use Rattle.checks.specs.Verdict.{failuresOn, statusOf}
 use Rattle.answer.specs.declared.Answer.{Answer}
+use Rattle.calls.specs.declared.judging.Formal.{Formal}
 
 -- the arguments of a call but for the tables and the ledger
 pub record Call : Type 0 where
@@ -71,6 +73,18 @@ abbrev pub failedOf : Checked → Failures
 failedOf (Passed r) = noFailure
 failedOf (Failed failed) = failed
 
+-- places 0 to 60 by the sender check's finding: where it passes for a row, the failures of 7 to 60; else those of 0 to 6, and no row. F n is field n
+abbrev pub formalIn : List ℕ → (List ℕ → Bool) → (ℕ → List ℕ) → Checked → Formal
+formalIn reporters money F (Passed row) = record { row = row; failed = recordFailures reporters money row F }
+formalIn reporters money F (Failed failed) = record { row = noReporter; failed = failed }
+
+unfoldable pub formalBy : List ℕ → (List ℕ → Bool) → List ℕ → Bool → (ℕ → List ℕ) → Formal
+formalBy reporters money sender whole F = formalIn reporters money F (senderCheck reporters sender whole (F 1) (F 2))
+
+-- places 0 to 60 of a call's record, for the lent tables. The ledger has no part in them
+unfoldable pub formalOf : Tables → Call → Formal
+formalOf tables call = formalIn (tables .reporters) (isMoney (tables .currencies)) (fieldOf (call .«record»)) (checkedOf tables call)
+
 -- the answer record of a record: its failures, its reporter's row, the new row, and its length
 unfoldable pub answerOf : Failures → ℕ → ℕ → List ℕ → Answer
 answerOf failed row new «record» =
@@ -88,16 +102,16 @@ unfoldable pub bookedAs : ℕ → ℕ → List ℕ → List ℕ → List ℕ
 bookedAs free named «record» c =
     booked free (fieldOf «record» 39) (valueOf (decimalOf 15 4 (fieldOf «record» 22))) (letter (fieldOf «record» 7)) named c
 
--- A record that passes the sender check for a row, on that bank's compartment: its failures, its answer, and the compartment afterwards.
-module _ (tables : Tables) (row : ℕ) («record» c : List ℕ) where
+-- A record whose places 0 to 60 are judged, on its bank's compartment: its failures, its answer, and the compartment afterwards.
+module _ (formal : Formal) («record» c : List ℕ) where
   abbrev pub foundRows : Booking
   foundRows = bookingOf c (fieldOf «record» 16) (fieldOf «record» 39)
 
   unfoldable pub stepFailures : Failures
-  stepFailures = failuresFrom7 (tables .reporters) (isMoney (tables .currencies)) row (fieldOf «record») c
+  stepFailures = failuresOn c (formal .failed) (fieldOf «record»)
 
   unfoldable pub stepAnswer : Answer
-  stepAnswer = answerOf stepFailures row (cond (isEmpty stepFailures) (foundRows .free) noRow) «record»
+  stepAnswer = answerOf stepFailures (formal .row) (cond (isEmpty stepFailures) (foundRows .free) noRow) «record»
 
   unfoldable pub stepCompartment : List ℕ
   stepCompartment = cond (isEmpty stepFailures) (bookedAs (foundRows .free) (foundRows .named) «record» c) c

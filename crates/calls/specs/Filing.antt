@@ -1,18 +1,18 @@
--- The file call of document 01: refusals 1 to 12, and an accepted file as its records called singly, by its sender, in file order.
+-- The file call of document 01: refusals 1 to 12, and an accepted file as its records called singly, by its sender, in file order: each of them judged and
+-- booked, the two in a row (document 02, Item 5).
 -- Assumes nothing.
 use Prim.Native.Nat.{ℕ, _*_}
 use mathlib.Core.List.{List, [], _∷_, _++_, map}
 use lib.Dec.{leb}
 use lib.ListN.{length, drop}
 use Rattle.frame.specs.Reply.{Reply, refused, accepted, unless, firstOf, past}
-use Rattle.frame.specs.Isolation.{replies, storeAfter}
 use Rattle.tables.specs.Tables.{Tables, tablesFlaw}
 use Rattle.ledger.specs.Sound.{ledgerFlaw}
 use Rattle.answer.specs.Answer.{answerSize}
 use Rattle.envelope.specs.declared.Layout.{Layout}
 use Rattle.envelope.specs.Envelope.{fileLimit, reportOf, senderOf, recordsFrom}
 use Rattle.calls.specs.Call.{Call, called}
-use Rattle.calls.specs.Rules.{rules}
+use Rattle.calls.specs.Judging.{repliesInARow, ledgerInARow}
 
 -- the number by which a file call is refused for what it is lent: 1, 2, 3, 4, the first that applies; 0 for none. The ledger's own number is given
 unfoldable pub lentRefusal : Tables → List ℕ → ℕ → ℕ
@@ -51,8 +51,8 @@ module _ (tables : Tables) where
   unfoldable pub carriedOut : Reply (List Call) → List ℕ → List ℕ → FileOutcome
   carriedOut (refused n) l a = fileOutcome (refused n) l a
   carriedOut (accepted calls) l a =
-      fileOutcome (accepted (length calls)) (storeAfter (rules tables) calls l)
-      (answersIn (replies (rules tables) calls l) ++ drop (length calls * answerSize) a)
+      fileOutcome (accepted (length calls)) (ledgerInARow tables calls l)
+      (answersIn (repliesInARow tables calls l) ++ drop (length calls * answerSize) a)
 
   -- the file call
   unfoldable pub fileOf : List ℕ → List ℕ → List ℕ → FileOutcome

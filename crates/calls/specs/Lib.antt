@@ -1,5 +1,7 @@
 pub mod Call
 pub mod Rules
+pub mod Judging
+pub mod CallSteps
 pub mod Demand3
 pub mod Quantities
 pub mod Replied

@@ -1,24 +1,27 @@
--- Demand 3 of document 01 for files: a list of single-record calls and file calls in any mix.
+-- Demand 3 of document 01 for files: a list of single-record calls, booking calls and file calls in any mix.
 -- Assumes nothing.
 use Prim.Native.Nat.{ℕ, _*_}
-use mathlib.Core.Bool.{true, not}
+use mathlib.Core.Bool.{true, not, cond}
 use mathlib.Core.List.{List, [], _∷_, _++_, map}
 use mathlib.Core.Path.{_≡_}
 use lib.Dec.{eqb}
 use lib.ListN.{length, take}
 use Rattle.frame.specs.Reply.{Reply, refused, accepted, refusalIn, mapReply, past}
 use Rattle.frame.specs.Isolation.{single, replies, storeAfter}
+use Rattle.frame.specs.Earlier.{WithEarlier}
 use Rattle.text.specs.Bytes.{all}
 use Rattle.tables.specs.Tables.{Tables}
 use Rattle.answer.specs.Answer.{answerSize}
 use Rattle.calls.specs.Call.{Call, refusalOf}
 use Rattle.calls.specs.Rules.{rules}
+use Rattle.calls.specs.Judging.{earlierFits, bookingRules, inARow}
 use Rattle.calls.specs.Demand3.{CallsIsolated}
 use Rattle.calls.specs.Filing.{readingOf, fileOf, answersIn, FileOutcome}
 
--- one request to the bureau: a single-record call, or a file call with the answer buffer that is lent
+-- one request to the bureau: a single-record call; a booking call with its earlier answer; or a file call with the answer buffer that is lent
 pub data Request : Type 0 where
   record-call : Call → Request
+  book-call : WithEarlier Call → Request
   file-call : List ℕ → List ℕ → Request
 
 -- the answers in a buffer after a file call: 16 bytes a record from its start
@@ -32,15 +35,18 @@ answersOf o = inBuffer (o .reply)
 module _ (tables : Tables) where
   -- what a request leaves, answers and returns, on the ledger as it then is: the number of its refusal, or how many answers it gives
   abbrev pub requestStore : Request → List ℕ → List ℕ
-  requestStore (record-call c) l = single (rules tables) c l .store
+  requestStore (record-call c) l = inARow tables c l .store
+  requestStore (book-call b) l = single (bookingRules tables) b l .store
   requestStore (file-call file a) l = fileOf tables file l a .store
 
   abbrev pub requestAnswers : Request → List ℕ → List ℕ
-  requestAnswers (record-call c) l = answersIn (single (rules tables) c l .reply ∷ [])
+  requestAnswers (record-call c) l = answersIn (inARow tables c l .reply ∷ [])
+  requestAnswers (book-call b) l = answersIn (single (bookingRules tables) b l .reply ∷ [])
   requestAnswers (file-call file a) l = answersOf (fileOf tables file l a)
 
   abbrev pub requestReply : Request → List ℕ → Reply ℕ
-  requestReply (record-call c) l = mapReply (λ a. 1) (single (rules tables) c l .reply)
+  requestReply (record-call c) l = mapReply (λ a. 1) (inARow tables c l .reply)
+  requestReply (book-call b) l = mapReply (λ a. 1) (single (bookingRules tables) b l .reply)
   requestReply (file-call file a) l = fileOf tables file l a .reply
 
   -- a list of requests, each on the ledger that the last one left
@@ -56,13 +62,14 @@ module _ (tables : Tables) where
   repliesOver [] l = []
   repliesOver (q ∷ qs) l = requestReply q l ∷ repliesOver qs (requestStore q l)
 
-  -- the single-record calls that a request stands for, the ledger being sound: none for a refused file
+  -- the single-record calls that a request stands for, the ledger being sound: none for a booking whose earlier answer does not fit, or a refused file
   abbrev pub callsOf : Reply (List Call) → List Call
   callsOf (refused n) = []
   callsOf (accepted calls) = calls
 
   abbrev pub requestCalls : Request → List Call
   requestCalls (record-call c) = c ∷ []
+  requestCalls (book-call b) = cond (earlierFits tables (b .call) (b .earlier)) (b .call ∷ []) []
   requestCalls (file-call file a) = callsOf (readingOf tables file (length a) 0)
 
   abbrev pub callsOver : List Request → List Call
@@ -72,6 +79,7 @@ module _ (tables : Tables) where
   -- what a request returns on every sound ledger
   abbrev pub soundReply : Request → Reply ℕ
   soundReply (record-call c) = past (refusalOf tables c 0) (accepted 1)
+  soundReply (book-call b) = past (bookingRules tables .refusal b 0) (accepted 1)
   soundReply (file-call file a) = mapReply length (readingOf tables file (length a) 0)
 
   -- The claim: the ledger and the answers are those of the single-record calls that the requests stand for, and demand 3 holds of these; each request

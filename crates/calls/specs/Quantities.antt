@@ -13,7 +13,7 @@ use Rattle.ledger.specs.Row.{cancelled, state}
 use Rattle.ledger.specs.Sound.{compartmentSize, compartment, rowsOf, soundLedger}
 use Rattle.ledger.specs.Quantity.{withQuantityAt}
 use Rattle.checks.specs.Booking.{namedRow}
-use Rattle.calls.specs.Call.{Call, stepFailures, stepCompartment}
+use Rattle.calls.specs.Call.{Call, formalOf, stepFailures, stepCompartment}
 use Rattle.calls.specs.Rules.{rules}
 
 -- the ledger with the quantity q in row k of bank r
@@ -26,6 +26,6 @@ pub record AnyQuantity (tables : Tables) (r k q : ℕ) (l : List ℕ) : Type 0 w
   -- every call gets the reply that it gets without it, one that names the row too
   pub replies : (call : Call) → single (rules tables) call (ledgerWithQuantity r k q l) .reply ≡ single (rules tables) call l .reply
   -- and a record that names the row and is booked leaves it cancelled
-  pub cancels : (reporter : ℕ) (s : List ℕ) → isEmpty (stepFailures tables reporter s (withQuantityAt k q (compartment r l))) ≡ true
-      → namedRow (withQuantityAt k q (compartment r l)) (fieldOf s 16) ≡ k
-      → state (rowsOf (stepCompartment tables reporter s (withQuantityAt k q (compartment r l))) k) ≡ cancelled
+  pub cancels : (call : Call) → let c = withQuantityAt k q (compartment r l) in
+      isEmpty (stepFailures (formalOf tables call) (call .«record») c) ≡ true → namedRow c (fieldOf (call .«record») 16) ≡ k
+      → state (rowsOf (stepCompartment (formalOf tables call) (call .«record») c) k) ≡ cancelled

@@ -8,11 +8,12 @@ use Rattle.frame.specs.Parts.{put}
 use Rattle.tables.specs.Tables.{Tables}
 use Rattle.ledger.specs.Sound.{bankCount, compartmentSize, compartment, ledgerFlaw}
 use Rattle.answer.specs.Answer.{answerBytes}
-use Rattle.calls.specs.Call.{Call, noRow, refusalOf, checkedOf, rowOf, failedOf, noReporter, answerOf, stepAnswer, stepCompartment}
+use Rattle.calls.specs.Call.{Call, noRow, refusalOf, checkedOf, rowOf, failedOf, noReporter, formalOf, answerOf, stepAnswer, stepCompartment}
 
-abbrev pub rules : Tables → Rules
-rules tables = record {
-  Call = Call;
+-- for whatever brings a call with it, and is refused by a number of its own
+abbrev pub rulesFor : Tables → {A : Type 0} → (A → Call) → (A → ℕ → ℕ) → Rules
+rulesFor tables {A} call refusal = record {
+  Call = A;
   Answer = List ℕ;
   Store = List ℕ;
   State = List ℕ;
@@ -20,9 +21,13 @@ rules tables = record {
   own = compartment;
   keep = put compartmentSize;
   flaw = ledgerFlaw;
-  refusal = refusalOf tables;
-  bank = λ call. rowOf (checkedOf tables call);
-  stranger = λ call. answerBytes (answerOf (failedOf (checkedOf tables call)) noReporter noRow (call .«record»));
-  judge = λ call c. answerBytes (stepAnswer tables (rowOf (checkedOf tables call)) (call .«record») c);
-  next = λ call c. stepCompartment tables (rowOf (checkedOf tables call)) (call .«record») c;
+  refusal = refusal;
+  bank = λ b. rowOf (checkedOf tables (call b));
+  stranger = λ b. answerBytes (answerOf (failedOf (checkedOf tables (call b))) noReporter noRow (call b .«record»));
+  judge = λ b c. answerBytes (stepAnswer (formalOf tables (call b)) (call b .«record») c);
+  next = λ b c. stepCompartment (formalOf tables (call b)) (call b .«record») c;
 }
+
+-- for the calls themselves
+abbrev pub rules : Tables → Rules
+rules tables = rulesFor tables (λ (c : Call). c) (refusalOf tables)

@@ -1,35 +1,35 @@
-// The single-record call.
+// The single-record calls: judging, booking, and the old call, which is the two in a row.
 ghost use mathlib.Core.Path.{_≡_};
-ghost use mathlib.Core.Bool.{true};
-ghost use Prim.Native.Nat.{_≤_, _<_};
-ghost use lib.ListN.{length};
 ghost use Rattle.frame.specs.Isolation.{single};
+ghost use Rattle.frame.specs.Parts.{put};
 ghost use Rattle.decimal.specs.Decimal.{decimalOf, valueOf};
 ghost use Rattle.fields.specs.Fields.{stopsOf};
-ghost use Rattle.tables.specs.Currencies.{currenciesOk};
 ghost use Rattle.tables.specs.Tables.{tablesOf};
-ghost use Rattle.ledger.specs.Sound.{ledgerFlaw};
-ghost use Rattle.calls.specs.Call.{recordLimit, noReporter, noRow, failedOf, recordForm, callFlaw, refusalOf, called};
-ghost use Rattle.calls.specs.Call.{answerOf, bookedAs, stepAnswer, stepCompartment};
+ghost use Rattle.ledger.specs.Sound.{compartmentSize, compartment, ledgerFlaw};
+ghost use Rattle.calls.specs.Call.{recordForm, callFlaw, refusalOf, called, bookedAs, stepAnswer, stepCompartment};
+ghost use Rattle.calls.specs.CallSteps.{Judged};
 ghost use Rattle.calls.specs.Rules.{rules};
+ghost use Rattle.calls.specs.Judging.{booking, fitsFailures, bookingRules, judgedOf, inARow};
 ghost use Rattle.calls.specs.Replied.{outcome};
 ghost use Rattle.calls.specs.declared.Replied.the-variants.{Answered};
 use answer::Answer;
-use answer::NO_REPORTER;
 use decimal::Decimal;
 use failures::Failures;
 use fields::part;
+use judging::Formal;
+use judging::foresee;
+use judging::judge_formal;
 use ledger::COMPARTMENT_SIZE;
-use sender::Checked;
 use text::Class;
 
 pub mod filing;
+pub mod judging;
 
 // The largest record.
 const RECORD_LIMIT: usize = 32768;
 
-// The new row of a record that is not booked.
-const NO_ROW: usize = 65535;
+// The refusal of an earlier answer that does not fit the record.
+const UNFIT: u8 = 29;
 
 // What a call returns: the number of its refusal, or its answer.
 pub enum Replied {
@@ -80,21 +80,6 @@ pub fn refusal<'a>(
     call_flaw(sender, record)
 }
 
-// The answer to a record with these failures, for a reporter's row, booked in a new row.
-fn answer_of(failed: Failures, row: usize, new: usize, record: &[u8]) -> Answer
-    requires { ⌜ (row < 256) × (new < 65536) × (length (now «record») ≤ recordLimit) ⌝ }
-    ensures { λ r. ⌜ r ≡ answerOf failed row new (now («record» .entry)) ⌝ }
-{
-    Answer {
-        failed: failed,
-        code: failed.code(),
-        row: row as u8,
-        status: checks::status(failed),
-        booked: new as u16,
-        length: record.len() as u16,
-    }
-}
-
 // The quantity of field 22, in ten-thousandths.
 fn quantity(f22: &[u8]) -> u64
     ensures { λ r. ⌜ r ≡ valueOf (decimalOf 15 4 (now (f22 .entry))) ⌝ }
@@ -121,46 +106,33 @@ fn book_record<'a>(
     booking::book(c, free, part(record, stops, 39), q, side, named);
 }
 
-// The one step that judges places 7 to 63 and books. It is lent the compartment of the record's bank, and nothing of the others.
-fn step<'a>(
-    c: &mut [u8],
-    reporters: &'a [u8],
-    currencies: &'a [u8],
-    row: usize,
-    record: &'a [u8],
-    stops: &'a [usize; 39],
-) -> Answer
-    requires { ⌜ (row < 256) × (length (now «record») ≤ recordLimit) × (now stops ≡ stopsOf (now «record»)) × (currenciesOk (now currencies) ≡ true) ⌝ }
-    ensures { λ r. ⌜ r ≡ stepAnswer (tablesOf (now (reporters .entry)) (now (currencies .entry))) row (now («record» .entry)) (now (c .entry)) ⌝ }
-    ensures { λ r. ⌜ now (c .exit) ≡ stepCompartment (tablesOf (now (reporters .entry)) (now (currencies .entry))) row (now («record» .entry))
-        (now (c .entry)) ⌝ }
+// Answers a record whose places 0 to 60 are judged, on the ledger as it is, and books it where it has no failure: in the compartment of its bank, and lent
+// nothing of the others.
+fn settle<'a>(ledger: &mut [u8], formal: Formal, record: &'a [u8], stops: &'a [usize; 39]) -> Answer
+    requires { ⌜ Judged formal (now «record») (now stops) (now ledger) ⌝ }
+    ensures { λ r. ⌜ r ≡ stepAnswer formal (now («record» .entry)) (compartment (formal .row) (now (ledger .entry))) ⌝ }
+    ensures { λ r. ⌜ now (ledger .exit) ≡ put compartmentSize (formal .row)
+        (stepCompartment formal (now («record» .entry)) (compartment (formal .row) (now (ledger .entry)))) (now (ledger .entry)) ⌝ }
 {
-    let judged = checks::judge(reporters, currencies, row, record, stops);
-    if !judged.is_empty() {
-        return answer_of(judged, row, NO_ROW, record);
-    }
-    let found = checks::judge_booking(c, part(record, stops, 16), part(record, stops, 39));
-    let failed = found.failed;
+    let foreseen = foresee(ledger, formal, record, stops);
+    let answer = foreseen.answer;
+    let failed = answer.failed;
     if !failed.is_empty() {
-        return answer_of(failed, row, NO_ROW, record);
+        return answer;
     }
-    let free = found.free;
-    book_record(c, free, found.named, record, stops);
-    answer_of(failed, row, free, record)
+    let a = formal.row * COMPARTMENT_SIZE;
+    let e = a + COMPARTMENT_SIZE;
+    book_record(
+        &mut ledger[a..e],
+        answer.booked as usize,
+        foreseen.named,
+        record,
+        stops,
+    );
+    answer
 }
 
-// The answer to a record that passes for no bank.
-fn stranger(checked: Checked, record: &[u8]) -> Answer
-    requires { ⌜ length (now «record») ≤ recordLimit ⌝ }
-    ensures { λ r. ⌜ r ≡ answerOf (failedOf checked) noReporter noRow (now («record» .entry)) ⌝ }
-{
-    match checked {
-        Checked::Failed(failed) => answer_of(failed, NO_REPORTER as usize, NO_ROW, record),
-        Checked::Passed(_) => answer_of(Failures::none(), NO_REPORTER as usize, NO_ROW, record),
-    }
-}
-
-// A call that is not refused: the sender check; then, for a record that passes it, the step on its bank's compartment.
+// A call that is not refused: judged and booked, the two in a row.
 pub(crate) fn admitted<'a>(
     reporters: &'a [u8],
     currencies: &'a [u8],
@@ -173,30 +145,11 @@ pub(crate) fn admitted<'a>(
         (called (now (sender .entry)) (now («record» .entry))) (now (ledger .entry)) ⌝ }
 {
     let stops = fields::index(record);
-    let whole = fields::is_whole(&stops);
-    let checked = sender::check(
-        reporters,
-        sender,
-        whole,
-        part(record, &stops, 1),
-        part(record, &stops, 2),
-    );
-    let Checked::Passed(row) = checked else {
-        return stranger(checked, record);
-    };
-    let a = row * COMPARTMENT_SIZE;
-    let e = a + COMPARTMENT_SIZE;
-    step(
-        &mut ledger[a..e],
-        reporters,
-        currencies,
-        row,
-        record,
-        &stops,
-    )
+    let judged = judge_formal(reporters, currencies, sender, record, &stops);
+    settle(ledger, judged, record, &stops)
 }
 
-// The single-record call: refusals 2, 3, 4, 13, 14 in that order; then the answer to a call that has none.
+// The old single-record call: refusals 2, 3, 4, 13, 14 in that order; then judging and booking in a row. Nothing is judged twice.
 pub fn record_call<'a>(
     reporters: &'a [u8],
     currencies: &'a [u8],
@@ -204,7 +157,7 @@ pub fn record_call<'a>(
     sender: &'a [u8],
     record: &'a [u8],
 ) -> Replied
-    ensures { λ r. ⌜ outcome r (now (ledger .exit)) ≡ single (rules (tablesOf (now (reporters .entry)) (now (currencies .entry))))
+    ensures { λ r. ⌜ outcome r (now (ledger .exit)) ≡ inARow (tablesOf (now (reporters .entry)) (now (currencies .entry)))
         (called (now (sender .entry)) (now («record» .entry))) (now (ledger .entry)) ⌝ }
 {
     let n = refusal(reporters, currencies, ledger, sender, record);
@@ -212,4 +165,87 @@ pub fn record_call<'a>(
         return Replied::Refused(n);
     }
     Replied::Answered(admitted(reporters, currencies, ledger, sender, record))
+}
+
+// Judging: refusals 2, 3, 4, 13, 14 in that order; then the old call's answer. The ledger is lent for reading only.
+pub fn judge_call<'a>(
+    reporters: &'a [u8],
+    currencies: &'a [u8],
+    ledger: &'a [u8],
+    sender: &'a [u8],
+    record: &'a [u8],
+) -> Replied
+    ensures { λ r. ⌜ outcome r (now (ledger .entry)) ≡ judgedOf (tablesOf (now (reporters .entry)) (now (currencies .entry)))
+        (called (now (sender .entry)) (now («record» .entry))) (now (ledger .entry)) ⌝ }
+{
+    let n = refusal(reporters, currencies, ledger, sender, record);
+    if n != 0 {
+        return Replied::Refused(n);
+    }
+    let stops = fields::index(record);
+    let judged = judge_formal(reporters, currencies, sender, record, &stops);
+    let foreseen = foresee(ledger, judged, record, &stops);
+    let answer = foreseen.answer;
+    Replied::Answered(answer)
+}
+
+// Whether an earlier answer is sixteen bytes with just these failures at places 0 to 60. Nothing else of it is looked at.
+fn fits(earlier: &[u8], failed: Failures) -> bool
+    ensures { λ r. ⌜ r ≡ fitsFailures (now (earlier .entry)) failed ⌝ }
+{
+    if earlier.len() != answer::SIZE {
+        return false;
+    }
+    let told = answer::read(earlier, 0);
+    let set = told.failed;
+    set.before_booking().same(failed)
+}
+
+// The number by which a booking is refused: 2, 3, 4, 13, 14, 29, the first that applies; 0 for none.
+pub fn booking_refusal<'a>(
+    reporters: &'a [u8],
+    currencies: &'a [u8],
+    ledger: &'a [u8],
+    sender: &'a [u8],
+    record: &'a [u8],
+    earlier: &'a [u8],
+) -> u8
+    ensures { λ r. ⌜ r ≡ bookingRules (tablesOf (now (reporters .entry)) (now (currencies .entry))) .refusal
+        (booking (called (now (sender .entry)) (now («record» .entry))) (now (earlier .entry))) (ledgerFlaw (now (ledger .entry))) ⌝ }
+{
+    let n = refusal(reporters, currencies, ledger, sender, record);
+    if n != 0 {
+        return n;
+    }
+    let stops = fields::index(record);
+    let judged = judge_formal(reporters, currencies, sender, record, &stops);
+    if fits(earlier, judged.failed) {
+        0
+    } else {
+        UNFIT
+    }
+}
+
+// Booking: refusals 2, 3, 4, 13, 14, 29 in that order; then the old call's answer and effect on the ledger as it is. Places 61 to 63 are judged again.
+pub fn book_call<'a>(
+    reporters: &'a [u8],
+    currencies: &'a [u8],
+    ledger: &mut [u8],
+    sender: &'a [u8],
+    record: &'a [u8],
+    earlier: &'a [u8],
+) -> Replied
+    ensures { λ r. ⌜ outcome r (now (ledger .exit)) ≡ single (bookingRules (tablesOf (now (reporters .entry)) (now (currencies .entry))))
+        (booking (called (now (sender .entry)) (now («record» .entry))) (now (earlier .entry))) (now (ledger .entry)) ⌝ }
+{
+    let n = refusal(reporters, currencies, ledger, sender, record);
+    if n != 0 {
+        return Replied::Refused(n);
+    }
+    let stops = fields::index(record);
+    let judged = judge_formal(reporters, currencies, sender, record, &stops);
+    if !fits(earlier, judged.failed) {
+        return Replied::Refused(UNFIT);
+    }
+    Replied::Answered(settle(ledger, judged, record, &stops))
 }

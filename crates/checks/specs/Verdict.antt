@@ -1,5 +1,5 @@
--- The failures of a record that passes the sender check, on its bank's compartment; and what became of a record, by its first failure
--- (byte 11 of document 01's answer record).
+-- The failures of a record on its bank's compartment, once places 0 to 60 are judged; and what became of a record, by its first failure (byte 11 of
+-- document 01's answer record).
 -- Assumes nothing.
 use Prim.Native.Nat.{ℕ}
 use mathlib.Core.Bool.{Bool, cond}
@@ -8,13 +8,11 @@ use lib.Dec.{ltb}
 use Rattle.failures.specs.declared.Failures.{Failures}
 use Rattle.failures.specs.Failures.{isEmpty, firstPlace}
 use Rattle.checks.specs.declared.Booking.{Booking}
-use Rattle.checks.specs.Record.{recordFailures}
 use Rattle.checks.specs.Booking.{bookingOf}
 
--- places 7 to 60, and 61 to 63 only if all before pass
-unfoldable pub failuresFrom7 : List ℕ → (List ℕ → Bool) → ℕ → (ℕ → List ℕ) → List ℕ → Failures
-failuresFrom7 reporters money row F c =
-    let judged = recordFailures reporters money row F in cond (isEmpty judged) (bookingOf c (F 16) (F 39) .failed) judged
+-- the failures of places 0 to 60, and 61 to 63 only if all before pass
+unfoldable pub failuresOn : List ℕ → Failures → (ℕ → List ℕ) → Failures
+failuresOn c judged F = cond (isEmpty judged) (bookingOf c (F 16) (F 39) .failed) judged
 
 -- 0 booked; 1 places 0-6, 2 places 7-60, 3 places 61-63
 unfoldable pub statusAt : ℕ → ℕ

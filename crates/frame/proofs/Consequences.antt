@@ -8,7 +8,7 @@ use mathlib.Core.Logic.{_≢_}
 use native.Mathlib.Omega.{arith}
 use lib.Dec.{eqb, ltb}
 use borrow.Author.Tests.{eqb-true, ltb-true}
-use Rattle.frame.specs.Reply.{accepted}
+use Rattle.frame.specs.Reply.{refused, accepted, mapReply, past}
 use Rattle.frame.specs.Isolation.{Rules, Lawful, act, single, replies, storeAfter, answersFor}
 use Rattle.frame.specs.Isolation.{isStep, steps, loneAnswers, loneState}
 use Rattle.frame.proofs.BoolLaws.{and-right}
@@ -31,6 +31,16 @@ module _ (R : Rules) where
   -- a call whose record passes for no bank is answered alike on any two of them
   pub stranger-blind : (c : Call) (s t : Store) → flaw s ≡ 0 → flaw t ≡ 0 → banks ≤ bank c → single R c s .reply ≡ single R c t .reply
   stranger-blind c s t h k none = same-reply c s t h k (λ inside. absurd (omega arith))
+
+  -- that it is answered or refused is decided by its refusal alone
+  pub answered-once : (c : Call) (s : Store) → mapReply {B = ℕ} (λ a. 1) (single R c s .reply) ≡ past (refusal c (flaw s)) (accepted 1)
+  unfolding single past
+  answered-once c s = go (refusal c (flaw s)) (eqb (refusal c (flaw s)) 0) (ltb (bank c) banks)
+    where
+      go : (n : ℕ) (f b : Bool) → mapReply {B = ℕ} (λ a. 1) (act R c s n f b .reply) ≡ cond f (accepted 1) (refused n)
+      go n true true = refl
+      go n true false = refl
+      go n false b = refl
 
   -- two lists in a row: what they leave and answer
   pub after-append : (bs cs : List Call) (s : Store) → storeAfter R (bs ++ cs) s ≡ storeAfter R cs (storeAfter R bs s)

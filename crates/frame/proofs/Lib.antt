@@ -7,3 +7,4 @@ pub mod ReplyLaws
 pub mod Isolation
 pub mod Consequences
 pub mod PigeonLaws
+pub mod EarlierLaws

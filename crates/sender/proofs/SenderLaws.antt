@@ -10,8 +10,8 @@ use borrow.Author.Tests.{ltb-true}
 use lib.Dec.{lit≤}
 use lib.ListN.{length, getD}
 use Rattle.failures.specs.declared.Failures.{Failures}
-use Rattle.failures.specs.Failures.{addedFrom, noFailure, isEmpty, firstPlace}
-use Rattle.failures.proofs.FailureLaws.{none-failed, first-below}
+use Rattle.failures.specs.Failures.{addedFrom, noFailure, isEmpty, beforeBooking, firstPlace}
+use Rattle.failures.proofs.FailureLaws.{none-failed, first-below, before-same}
 use Rattle.fields.specs.Forms.{blank, is}
 use Rattle.tables.specs.Reporters.{reporterCount, hasMailbox}
 use Rattle.sender.specs.declared.Checked.the-variants.{Passed, Failed}
@@ -76,6 +76,13 @@ module _ (reporters sender : List ℕ) (whole : Bool) (f1 f2 : List ℕ) where
 
   pub failed-some : {s : Failures} → senderCheck reporters sender whole f1 f2 ≡ Failed s → isEmpty s ≡ false
   failed-some e = failed-set e .1
+
+  -- its failures are all before the booking
+  pub failed-before : {s : Failures} → senderCheck reporters sender whole f1 f2 ≡ Failed s → beforeBooking s ≡ s
+  failed-before e =
+      let tests = senderTests reporters sender whole f1 f2 in
+      let l : length tests ≤ 7 = tests-length reporters sender whole f1 f2 in
+      rw (failed-set e .0) (before-same tests 0 (omega arith))
 
   pub failed-first : {s : Failures} → senderCheck reporters sender whole f1 f2 ≡ Failed s → firstPlace s < 7
   failed-first e =

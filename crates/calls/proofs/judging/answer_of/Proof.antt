@@ -1,8 +1,8 @@
 use mathlib.Core.Path.{refl}
 use Rattle.calls.specs.Call.{answerOf}
 use borrow.Author.Needs.{needs}
-use Rattle.calls.proofs.answer_of.Statement.{statement}
-use Rattle.calls.proofs.answer_of.Tie as tie
+use Rattle.calls.proofs.judging.answer_of.Statement.{statement}
+use Rattle.calls.proofs.judging.answer_of.Tie as tie
 
 cast-t6 : tie.Need-cast-t6
 cast-t6 c = search needs

@@ -1,0 +1,120 @@
+// Judging: places 0 to 60 of a record without a ledger, then 61 to 63 on its bank's compartment as it is. Nothing is booked here.
+ghost use mathlib.Core.Bool.{true};
+ghost use mathlib.Core.Path.{_≡_};
+ghost use Prim.Native.Nat.{_≤_, _<_};
+ghost use lib.ListN.{length};
+ghost use Rattle.failures.specs.Failures.{isEmpty};
+ghost use Rattle.fields.specs.Fields.{fieldOf, fieldBy, isWholeIndex};
+ghost use Rattle.tables.specs.Currencies.{foundMoney};
+ghost use Rattle.ledger.specs.Sound.{compartment};
+ghost use Rattle.checks.specs.Booking.{namedRow};
+ghost use Rattle.calls.specs.Call.{recordLimit, formalBy, answerOf, stepFailures, stepAnswer};
+ghost use Rattle.calls.specs.CallSteps.{Judged};
+use answer::Answer;
+use answer::NO_REPORTER;
+use failures::Failures;
+use fields::part;
+use ledger::COMPARTMENT_SIZE;
+use ledger::ROW_COUNT;
+use sender::Checked;
+
+// The new row of a record that is not booked.
+const NO_ROW: usize = 65535;
+
+// Places 0 to 60 of a record: the row for which it passes the sender check, 255 for none, and its failures.
+pub struct Formal {
+    pub row: usize,
+    pub failed: Failures,
+}
+
+// What a record comes to on the ledger as it is: its answer, and the live row that it names, 64 for none.
+pub(crate) struct Foreseen {
+    pub answer: Answer,
+    pub named: usize,
+}
+
+// Judges places 0 to 60, by the record's index: the sender check, then 7 to 60 for a record that passes it. It is lent no ledger.
+pub fn judge_formal<'a>(
+    reporters: &'a [u8],
+    currencies: &'a [u8],
+    sender: &'a [u8],
+    record: &'a [u8],
+    stops: &'a [usize; 39],
+) -> Formal
+    ensures { λ r. ⌜ r ≡ formalBy (now (reporters .entry)) (foundMoney (now (currencies .entry))) (now (sender .entry)) (isWholeIndex (now (stops .entry)))
+        (fieldBy (now («record» .entry)) (now (stops .entry))) ⌝ }
+{
+    let whole = fields::is_whole(stops);
+    match sender::check(
+        reporters,
+        sender,
+        whole,
+        part(record, stops, 1),
+        part(record, stops, 2),
+    ) {
+        Checked::Passed(row) => Formal {
+            row,
+            failed: checks::judge(reporters, currencies, row, record, stops),
+        },
+        Checked::Failed(failed) => Formal {
+            row: NO_REPORTER as usize,
+            failed,
+        },
+    }
+}
+
+// The answer to a record with these failures, for a reporter's row, booked in a new row.
+fn answer_of(failed: Failures, row: usize, new: usize, record: &[u8]) -> Answer
+    requires { ⌜ (row < 256) × (new < 65536) × (length (now «record») ≤ recordLimit) ⌝ }
+    ensures { λ r. ⌜ r ≡ answerOf failed row new (now («record» .entry)) ⌝ }
+{
+    Answer {
+        failed: failed,
+        code: failed.code(),
+        row: row as u8,
+        status: checks::status(failed),
+        booked: new as u16,
+        length: record.len() as u16,
+    }
+}
+
+// The answer to a record whose places 0 to 60 are judged, on the ledger as it is. Where all of them pass, 61 to 63 are lent the compartment of the record's
+// bank, and nothing of the others, to read.
+pub(crate) fn foresee<'a>(
+    ledger: &'a [u8],
+    formal: Formal,
+    record: &'a [u8],
+    stops: &'a [usize; 39],
+) -> Foreseen
+    requires { ⌜ Judged formal (now «record») (now stops) (now ledger) ⌝ }
+    ensures { λ r. ⌜ r .answer ≡ stepAnswer formal (now («record» .entry)) (compartment (formal .row) (now (ledger .entry))) ⌝ }
+    ensures { λ r. ⌜ (isEmpty (stepFailures formal (now («record» .entry)) (compartment (formal .row) (now (ledger .entry)))) ≡ true
+        → r .named ≡ namedRow (compartment (formal .row) (now (ledger .entry))) (fieldOf (now («record» .entry)) 16)) ⌝ }
+{
+    let row = formal.row;
+    let judged = formal.failed;
+    if !judged.is_empty() {
+        return Foreseen {
+            answer: answer_of(judged, row, NO_ROW, record),
+            named: ROW_COUNT,
+        };
+    }
+    let a = row * COMPARTMENT_SIZE;
+    let e = a + COMPARTMENT_SIZE;
+    let found = checks::judge_booking(
+        &ledger[a..e],
+        part(record, stops, 16),
+        part(record, stops, 39),
+    );
+    let failed = found.failed;
+    if !failed.is_empty() {
+        return Foreseen {
+            answer: answer_of(failed, row, NO_ROW, record),
+            named: ROW_COUNT,
+        };
+    }
+    Foreseen {
+        answer: answer_of(failed, row, found.free, record),
+        named: found.named,
+    }
+}
