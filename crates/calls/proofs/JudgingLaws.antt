@@ -16,8 +16,9 @@ use Rattle.frame.specs.Isolation.{Outcome, single, replies, storeAfter}
 use Rattle.frame.specs.Earlier.{WithEarlier, earlierRefusal, AllFit}
 use Rattle.frame.proofs.BoolLaws.{and-intro, and-goes}
 use Rattle.frame.proofs.Isolation.{single-refused}
+use Rattle.frame.proofs.Consequences.{Decided, single-decided}
 use Rattle.frame.proofs.EarlierLaws.{earlier-first, earlier-unfit, earlier-none, earlier-refuses, earlier-fits, fit-store, fit-replies}
-use Rattle.frame.proofs.ReplyLaws.{unless-never, end-never, first-never}
+use Rattle.frame.proofs.ReplyLaws.{unless-none, unless-never, first-none, end-never, first-never}
 use Rattle.failures.specs.declared.Failures.{Failures}
 use Rattle.failures.specs.Failures.{sameSet, beforeBooking}
 use Rattle.failures.proofs.FailureLaws.{same-self}
@@ -175,6 +176,14 @@ module _ (tables : Tables) where
     booking-unfit f =
         single-refused (bookingRules tables) b l _ refl (earlier-refuses (rules tables) (earlierFits tables) 29 b (ledgerFlaw l) (omega arith) f)
 
+    -- one that is not refused fits, and is not refused as the old call either
+    pub booking-free : bookingRules tables .refusal b (ledgerFlaw l) ≡ 0
+        → (refusalOf tables (b .call) (ledgerFlaw l) ≡ 0) × (earlierFits tables (b .call) (b .earlier) ≡ true)
+    unfolding earlierRefusal
+    booking-free e =
+        let (free, fits) = first-none _ _ e in
+        (free, unless-none _ 29 (omega arith) (first-none _ [] fits .0))
+
   -- the returns of the booking call, of a record whose places 0 to 60 are judged
   module _ (call : Call) (earlier l : List ℕ) {n : ℕ} (e : n ≡ refusalOf tables call (ledgerFlaw l)) where
     abbrev number : ℕ
@@ -202,6 +211,19 @@ module _ (tables : Tables) where
 
     pub booking-refused : {k : ℕ} → k ≡ number → k ≢ 0 → record { reply = refused k; store = l } ≡ single (bookingRules tables) (booking call earlier) l
     booking-refused {k} q ne = sym (single-refused (bookingRules tables) (booking call earlier) l k (sym q) ne)
+
+  -- what the old call and judging come to, by the number of the call
+  pub row-decided : (call : Call) (l : List ℕ) → Decided (refusalOf tables call (ledgerFlaw l)) (inARow tables call l) l
+  row-decided call l = rw (in-a-row call l) (single-decided (rules tables) call l)
+
+  pub judged-decided : (call : Call) (l : List ℕ) → Decided (refusalOf tables call (ledgerFlaw l)) (judgedOf tables call l) l
+  unfolding judgedOf
+  judged-decided call l =
+      let one = single-decided (rules tables) call l in
+      record {
+        answers = one .answers;
+        refuses = λ ne. ap (λ (o : Outcome (List ℕ) (List ℕ)). record { reply = o .reply; store = l }) (one .refuses ne);
+      }
 
   -- on a sound ledger no booking is refused by 4
   pub booking-never-four : (b : WithEarlier Call) → bookingRules tables .refusal b 0 ≢ 4

@@ -9,7 +9,8 @@ use borrow.Author.Tests.{ltb-true, ltb-false}
 use lib.Dec.{ltb}
 use lib.ListN.{length, length-append}
 use Rattle.frame.specs.Reply.{Reply, refused, accepted}
-use Rattle.frame.specs.Isolation.{single, replies, storeAfter}
+use Rattle.frame.specs.Isolation.{Outcome, single, replies, storeAfter}
+use Rattle.frame.specs.Earlier.{WithEarlier}
 use Rattle.frame.proofs.Isolation as isolated
 use Rattle.frame.proofs.Isolation.{single-stranger, single-step}
 use Rattle.tables.specs.Tables.{Tables}
@@ -18,8 +19,10 @@ use Rattle.answer.specs.Answer.{answerSize}
 use Rattle.answer.proofs.AnswerLaws.{answer-length}
 use Rattle.calls.specs.Call.{Call, refusalOf, checkedOf, rowOf}
 use Rattle.calls.specs.Rules.{rules}
+use Rattle.calls.specs.Judging.{bookingRules}
 use Rattle.calls.specs.Filing.{answersIn}
 use Rattle.calls.specs.FileSteps.{Admitted}
+use Rattle.calls.proofs.JudgingLaws.{booking-free, booking-fits}
 use Rattle.calls.proofs.Demand3.{lawful}
 
 pub answers-append : (vs ws : List (Reply (List ℕ))) → answersIn (vs ++ ws) ≡ answersIn vs ++ answersIn ws
@@ -42,6 +45,13 @@ module _ (tables : Tables) where
       go : (b : Bool) → ltb (rowOf (checkedOf tables call)) bankCount ≡ b → length (answersIn (single (rules tables) call l .reply ∷ [])) ≡ answerSize
       go true h = rw (single-step (rules tables) call l _ free refl (ltb-true _ _ h), append-nil) (answer-length _)
       go false h = rw (single-stranger (rules tables) call l free (ltb-false _ _ h), append-nil) (answer-length _)
+
+  pub booking-answered : (b : WithEarlier Call) (l : List ℕ) → bookingRules tables .refusal b (ledgerFlaw l) ≡ 0
+      → length (answersIn (single (bookingRules tables) b l .reply ∷ [])) ≡ answerSize
+  booking-answered b l free =
+      let fits = booking-free tables b l free in
+      ap (λ (o : Outcome (List ℕ) (List ℕ)). length (answersIn (o .reply ∷ []))) (booking-fits tables b l (fits .1))
+      ∙ single-answered (b .call) l (fits .0)
 
   -- the answers of a list without refusals
   pub answers-sized : (calls : List Call) (l : List ℕ) → Admitted tables calls → ledgerFlaw l ≡ 0

@@ -6,16 +6,16 @@ use mathlib.Core.Bool.{Bool, true, false, cond}
 use mathlib.Core.List.{List, [], _∷_}
 use mathlib.Core.Logic.{_≢_}
 use mathlib.Core.Path.{_≡_, refl, ap, sym, _∙_}
-use borrow.Author.Tests.{eq-eqb, ne-eqb, eqb-true, eqb-false, lt-ltb, le-ltb, le-leb, ltb-true, ltb-false}
-use lib.Dec.{eqb, ltb}
+use borrow.Author.Tests.{eq-eqb, ne-eqb, eqb-true, eqb-false, lt-ltb, le-ltb, le-leb}
+use lib.Dec.{eqb}
 use lib.ListN.{length}
 use Rattle.frame.specs.Reply.{Reply, refused, accepted, refusalIn}
-use Rattle.frame.specs.Isolation.{Outcome, single}
-use Rattle.frame.proofs.Isolation.{single-refused, single-stranger, single-step}
+use Rattle.frame.specs.Isolation.{Outcome}
+use Rattle.frame.proofs.Consequences.{Decided}
 use Rattle.identifier.specs.Isin.{letterSum}
 use Rattle.identifier.proofs.IsinLaws.{letter-sum}
 use Rattle.tables.specs.Tables.{Tables}
-use Rattle.ledger.specs.Sound.{bankCount, ledgerFlaw}
+use Rattle.ledger.specs.Sound.{ledgerFlaw}
 use Rattle.answer.specs.declared.Answer.{Answer}
 use Rattle.answer.specs.Answer.{answerSize, answerBytes, answerPut}
 use Rattle.page.specs.Page.{WriteOutcome, writeOutcome, wroteInto}
@@ -26,79 +26,51 @@ use Rattle.calls.specs.declared.Replied.{Replied}
 use Rattle.calls.specs.declared.Replied.the-variants.{Refused, Answered}
 use Rattle.calls.specs.declared.filing.Filed.{Filed}
 use Rattle.calls.specs.declared.filing.Filed.the-variants as File
-use Rattle.calls.specs.Call.{Call, called, refusalOf, checkedOf, rowOf}
-use Rattle.calls.specs.Rules.{rules}
+use Rattle.calls.specs.Call.{Call}
 use Rattle.calls.specs.Replied.{filedAs, outcome}
 use Rattle.calls.specs.Filing.{FileOutcome, fileOutcome, readingOf, carriedOut, fileOf}
-use Rattle.capi.specs.Exported.{exported, shortNumber, recordReply, recordExport, fileExport, writeReply, errorExport, sumExport}
+use Rattle.capi.specs.Exported.{exported, shortNumber, singleReply, singleExport, fileExport, writeReply, errorExport, sumExport}
 
 -- a call whose buffer is too short: its own refusal, else 12
-pub short-refused : {n m r : ℕ} → n ≡ r → n ≢ 0 → m ≡ n → m ≡ shortNumber r
-short-refused e h q = q ∙ e ∙ rw (ne-eqb _ 0 (λ z. h (e ∙ z))) refl
+pub short-refused : {n m : ℕ} → n ≢ 0 → m ≡ n → m ≡ shortNumber n
+short-refused h q = q ∙ rw (ne-eqb _ 0 h) refl
 
-pub short-free : {n r : ℕ} → n ≡ r → n ≡ 0 → 12 ≡ shortNumber r
-short-free e z = rw (eq-eqb _ 0 (sym e ∙ z)) refl
+pub short-free : {n : ℕ} → n ≡ 0 → 12 ≡ shortNumber n
+short-free z = rw (eq-eqb _ 0 z) refl
 
-module _ (tables : Tables) (sender s l : List ℕ) where
-  abbrev call : Call
-  call = called sender s
-
-  abbrev number : ℕ
-  number = refusalOf tables call (ledgerFlaw l)
-
-  abbrev done : Outcome (List ℕ) (List ℕ)
-  done = single (rules tables) call l
-
-  -- a call that is not refused is answered, and a refused one leaves the ledger
-  pub is-answered : number ≡ 0 → (w : List ℕ) × (done .reply ≡ accepted w)
-  is-answered e = go (ltb (rowOf (checkedOf tables call)) bankCount) refl
+-- the three returns of a call of one record, by its number
+module _ {number : ℕ} {o : Outcome (List ℕ) (List ℕ)} (l : List ℕ) (decided : Decided number o l) (a : List ℕ) where
+  pub short-exported : {r : ℕ} → length a < answerSize → r ≡ shortNumber number → exported r l a [] ≡ singleExport o l a
+  unfolding singleExport
+  short-exported {r} h e = ap (λ (n : ℕ). exported n l a []) e ∙ go (eqb number 0) refl
     where
-      go : (b : Bool) → ltb (rowOf (checkedOf tables call)) bankCount ≡ b → (w : List ℕ) × (done .reply ≡ accepted w)
-      go true h = (
-        _,
-        ap (λ (o : Outcome (List ℕ) (List ℕ)). o .reply) (single-step (rules tables) call l _ e refl (ltb-true _ _ h)),
-      )
-      go false h = (
-        _,
-        ap (λ (o : Outcome (List ℕ) (List ℕ)). o .reply) (single-stranger (rules tables) call l e (ltb-false _ _ h)),
-      )
+      go : (b : Bool) → eqb number 0 ≡ b → exported (cond b 12 number) l a [] ≡ singleReply o l a (o .reply)
+      go true q = let w = decided .answers (eqb-true _ _ q) in rw (w .1, lt-ltb _ _ h) refl
+      go false q = rw (decided .refuses (eqb-false _ _ q)) refl
 
-  pub is-refused : number ≢ 0 → done ≡ record { reply = refused number; store = l }
-  is-refused = single-refused (rules tables) call l number refl
+  pub refused-exported : {r : Replied} {n k : ℕ} (m : List ℕ) → r ≡ Refused n → outcome r m ≡ o → k ≡ n → exported k m a [] ≡ singleExport o l a
+  unfolding singleExport
+  refused-exported {r} {n} m q e w = ap (λ (k : ℕ). exported k m a []) w ∙ go (ap (λ (x : Replied). outcome x m) (sym q) ∙ e) (eqb number 0) refl
+    where
+      go : outcome (Refused n) m ≡ o → (b : Bool) → eqb number 0 ≡ b → exported n m a [] ≡ singleReply o l a (o .reply)
+      go e true q =
+          let w = decided .answers (eqb-true _ _ q) in
+          let z : refused n ≡ accepted (w .0) = ap (λ (x : Outcome (List ℕ) (List ℕ)). x .reply) e ∙ w .1 in
+          let y : _≡_ {A = ℕ} 0 1 = cc in
+          absurd (omega arith)
+      go e false q =
+          let same : m ≡ l = ap (λ (x : Outcome (List ℕ) (List ℕ)). x .store) (e ∙ decided .refuses (eqb-false _ _ q)) in
+          let told : o .reply ≡ refused n = sym (ap (λ (x : Outcome (List ℕ) (List ℕ)). x .reply) e) in
+          rw (told, same) refl
 
-  module _ (a : List ℕ) where
-    pub short-exported : {r : ℕ} → length a < answerSize → r ≡ shortNumber number → exported r l a [] ≡ recordExport tables sender s l a
-    unfolding recordExport
-    short-exported {r} h e = ap (λ (n : ℕ). exported n l a []) e ∙ go (eqb number 0) refl
-      where
-        go : (b : Bool) → eqb number 0 ≡ b → exported (cond b 12 number) l a [] ≡ recordReply done l a (done .reply)
-        go true q = let w = is-answered (eqb-true _ _ q) in rw (w .1, lt-ltb _ _ h) refl
-        go false q = rw (is-refused (eqb-false _ _ q)) refl
-
-    pub refused-exported : {r : Replied} {n k : ℕ} (m : List ℕ) → r ≡ Refused n → outcome r m ≡ done → k ≡ n
-        → exported k m a [] ≡ recordExport tables sender s l a
-    unfolding recordExport
-    refused-exported {r} {n} m q o w = ap (λ (k : ℕ). exported k m a []) w ∙ go (ap (λ (x : Replied). outcome x m) (sym q) ∙ o) (eqb number 0) refl
-      where
-        go : outcome (Refused n) m ≡ done → (b : Bool) → eqb number 0 ≡ b → exported n m a [] ≡ recordReply done l a (done .reply)
-        go e true q =
-            let w = is-answered (eqb-true _ _ q) in
-            let z : refused n ≡ accepted (w .0) = ap (λ (o : Outcome (List ℕ) (List ℕ)). o .reply) e ∙ w .1 in
-            let y : _≡_ {A = ℕ} 0 1 = cc in
-            absurd (omega arith)
-        go e false q =
-            let same : m ≡ l = ap (λ (o : Outcome (List ℕ) (List ℕ)). o .store) (e ∙ is-refused (eqb-false _ _ q)) in
-            let told : done .reply ≡ refused n = sym (ap (λ (o : Outcome (List ℕ) (List ℕ)). o .reply) e) in
-            rw (told, same) refl
-
-    pub answered-exported : {r : Replied} (w : Answer) (m : List ℕ) {b : List ℕ} → answerSize ≤ length a → r ≡ Answered w → outcome r m ≡ done
-        → b ≡ answerPut 0 w a → exported 0 m b [] ≡ recordExport tables sender s l a
-    unfolding recordExport answerPut
-    answered-exported {r} w m {b} h q o p =
-        let e : outcome (Answered w) m ≡ done = ap (λ (x : Replied). outcome x m) (sym q) ∙ o in
-        let reply : done .reply ≡ accepted (answerBytes w) = sym (ap (λ (o : Outcome (List ℕ) (List ℕ)). o .reply) e) in
-        let ledger : m ≡ done .store = ap (λ (o : Outcome (List ℕ) (List ℕ)). o .store) e in
-        rw (p, le-leb _ _ h, reply, le-ltb _ _ h, ledger) refl
+  pub answered-exported : {r : Replied} (w : Answer) (m : List ℕ) {b : List ℕ} → answerSize ≤ length a → r ≡ Answered w → outcome r m ≡ o
+      → b ≡ answerPut 0 w a → exported 0 m b [] ≡ singleExport o l a
+  unfolding singleExport answerPut
+  answered-exported {r} w m {b} h q f p =
+      let e : outcome (Answered w) m ≡ o = ap (λ (x : Replied). outcome x m) (sym q) ∙ f in
+      let reply : o .reply ≡ accepted (answerBytes w) = sym (ap (λ (x : Outcome (List ℕ) (List ℕ)). x .reply) e) in
+      let ledger : m ≡ o .store = ap (λ (x : Outcome (List ℕ) (List ℕ)). x .store) e in
+      rw (p, le-leb _ _ h, reply, le-ltb _ _ h, ledger) refl
 
 -- a refused file call leaves ledger and buffer
 pub file-kept : (tables : Tables) (file l a : List ℕ) (n : ℕ) → fileOf tables file l a .reply ≡ refused n

@@ -5,31 +5,35 @@ use native.Mathlib.Omega.{arith}
 use mathlib.Core.Bool.{Bool, true, false, not, cond}
 use mathlib.Core.List.{List, [], _∷_, _++_, append-nil, map}
 use mathlib.Core.Logic.{_≢_}
-use mathlib.Core.Path.{_≡_, refl, ap, sym, _∙_}
+use mathlib.Core.Path.{_≡_, refl, ap, sym, _∙_, subst}
 use borrow.Author.Tests.{eqb-true, eqb-false, ne-eqb}
 use lib.Dec.{eqb, ltb}
 use lib.ListN.{length, drop}
 use lib.Seq.{take-at}
 use Rattle.frame.specs.Reply.{Reply, refused, accepted, refusalIn}
-use Rattle.frame.specs.Isolation.{Outcome}
+use Rattle.frame.specs.Isolation.{Outcome, single}
+use Rattle.frame.specs.Earlier.{WithEarlier}
 use Rattle.frame.proofs.BoolLaws.{and-intro}
+use Rattle.frame.proofs.Consequences.{Decided, single-decided}
 use Rattle.frame.proofs.ReplyLaws.{map-refusal, map-numbered}
 use Rattle.text.specs.Bytes.{all}
 use Rattle.tables.specs.Tables.{Tables}
 use Rattle.ledger.specs.Sound.{soundLedger, ledgerFlaw}
 use Rattle.ledger.proofs.LedgerLaws.{flaw-none}
 use Rattle.answer.specs.Answer.{answerSize}
-use Rattle.calls.specs.Call.{called, refusalOf}
+use Rattle.calls.specs.Call.{Call, called, refusalOf}
+use Rattle.calls.specs.Judging.{booking, bookingRules, inARow}
 use Rattle.calls.specs.Filing.{FileOutcome, readingOf, answersIn, fileOf}
-use Rattle.calls.specs.Mixed.{Request, storeOver, answersOver}
+use Rattle.calls.specs.Mixed.{Request, record-call, book-call, requestStore, requestAnswers, storeOver, answersOver}
 use Rattle.calls.proofs.CallLaws.{refusal-never-four}
-use Rattle.calls.proofs.ListLaws.{single-answered}
+use Rattle.calls.proofs.JudgingLaws.{in-a-row, row-decided, booking-never-four}
+use Rattle.calls.proofs.ListLaws.{single-answered, booking-answered}
 use Rattle.calls.proofs.ReadingLaws.{reading-numbered, reading-never-four}
 use Rattle.calls.proofs.Files.{demand3-files, file-told, over-append, over-in-order}
-use Rattle.capi.specs.Exported.{Exported, recordExport, fileExport}
-use Rattle.capi.specs.Exports.{Export, record-export, file-export, exportOf, exportAnswers, storeThrough, answersThrough, repliesThrough}
-use Rattle.capi.specs.Exports.{exportRequests, requestsOver, soundNumber, ExportsIsolated}
-use Rattle.capi.proofs.ExportLaws.{is-answered, is-refused, file-kept}
+use Rattle.capi.specs.Exported.{singleExport, fileExport}
+use Rattle.capi.specs.Exports.{Export, record-export, book-export, file-export, oneAnswer, exportOf, exportAnswers, storeThrough, answersThrough}
+use Rattle.capi.specs.Exports.{repliesThrough, exportRequests, requestsOver, shortOr, soundNumber, ExportsIsolated}
+use Rattle.capi.proofs.ExportLaws.{file-kept}
 
 module _ (tables : Tables) where
   -- an exported call leaves and answers what the requests do that it stands for, and returns what it returns on every sound ledger
@@ -38,37 +42,40 @@ module _ (tables : Tables) where
     answers : exportAnswers tables x l ≡ answersOver tables (exportRequests tables x) l
     number : exportOf tables x l .reply ≡ soundNumber tables x
 
-  record-same : (sender s a l : List ℕ) → ledgerFlaw l ≡ 0 → Same (record-export sender s a) l
-  unfolding recordExport answersIn
-  record-same sender s a l h = go (ltb (length a) answerSize) (eqb (refusalOf tables (called sender s) 0) 0) refl refl
-    where
-      number : refusalOf tables (called sender s) (ledgerFlaw l) ≡ refusalOf tables (called sender s) 0
-      number = ap (refusalOf tables (called sender s)) h
-
-      go : (short free : Bool) → ltb (length a) answerSize ≡ short → eqb (refusalOf tables (called sender s) 0) 0 ≡ free → Same (record-export sender s a) l
-      go true true p q =
-          let told = is-answered tables sender s l (number ∙ eqb-true _ _ q) .1 in
-          record { store = rw (told, p) refl; answers = rw (told, p) refl; number = rw (told, p, q) refl }
-      go false true p q =
-          let free = number ∙ eqb-true _ _ q in
-          let w = is-answered tables sender s l free in
-          let sized : length (w .0) ≡ answerSize = rw (w .1, append-nil) at (single-answered tables (called sender s) l free) in
-          record {
-            store = rw (w .1, p) refl;
-            answers =
-                rw (p, w .1, p) (take-at (w .0) (drop answerSize a) answerSize sized ∙ sym (append-nil (w .0 ++ []) ∙ append-nil (w .0)));
-            number = rw (p, w .1, p) (sym (eqb-true _ _ q));
-          }
-      go true false p q =
-          let told = is-refused tables sender s l (λ z. eqb-false _ _ q (sym number ∙ z)) in
-          record { store = rw (told, p) refl; answers = rw (told, p, number, q) refl; number = rw (told, p, q) number }
-      go false false p q =
-          let told = is-refused tables sender s l (λ z. eqb-false _ _ q (sym number ∙ z)) in
-          record {
-            store = rw (p, told) (sym (ap (λ (o : Outcome (List ℕ) (List ℕ)). o .store) told));
-            answers = rw (p, told, number, q) refl;
-            number = rw (p, told) number;
-          }
+  -- a call of one record that comes to an outcome by its number, the same on every sound ledger, and stands for a request that comes to that outcome too
+  module _ (x : Export) (q : Request) (a l : List ℕ) (number : ℕ) (o : Outcome (List ℕ) (List ℕ)) (decided : Decided number o l)
+      (exports : exportOf tables x l ≡ singleExport o l a) (answer : exportAnswers tables x l ≡ oneAnswer (singleExport o l a))
+      (stands : exportRequests tables x ≡ cond (ltb (length a) answerSize) [] (q ∷ [])) (told : soundNumber tables x ≡ shortOr tables a number)
+      (left : requestStore tables q l ≡ o .store) (answered : requestAnswers tables q l ≡ answersIn (o .reply ∷ []))
+      (sized : number ≡ 0 → length (answersIn (o .reply ∷ [])) ≡ answerSize) where
+    single-same : Same x l
+    unfolding singleExport answersIn
+    single-same = go (ltb (length a) answerSize) (eqb number 0) refl refl
+      where
+        go : (short free : Bool) → ltb (length a) answerSize ≡ short → eqb number 0 ≡ free → Same x l
+        go true true p f =
+            let w = decided .answers (eqb-true _ _ f) .1 in
+            record { store = rw (exports, w, stands, p) refl; answers = rw (answer, w, stands, p) refl; number = rw (exports, w, told, p, f) refl }
+        go false true p f =
+            let w = decided .answers (eqb-true _ _ f) in
+            let long : length (w .0) ≡ answerSize = rw (w .1, append-nil) at (sized (eqb-true _ _ f)) in
+            record {
+              store = rw (exports, w .1, stands, p) (sym left);
+              answers =
+                  rw (answer, w .1, stands, p, answered, w .1)
+                  (take-at (w .0) (drop answerSize a) answerSize long ∙ sym (append-nil (w .0 ++ []) ∙ append-nil (w .0)));
+              number = rw (exports, w .1, told, p) (sym (eqb-true _ _ f));
+            }
+        go true false p f =
+            let no = decided .refuses (eqb-false _ _ f) in
+            record { store = rw (exports, no, stands, p) refl; answers = rw (answer, no, stands, p, f) refl; number = rw (exports, no, told, p, f) refl }
+        go false false p f =
+            let no = decided .refuses (eqb-false _ _ f) in
+            record {
+              store = rw (exports, no, stands, p) (sym (left ∙ ap (λ (u : Outcome (List ℕ) (List ℕ)). u .store) no));
+              answers = rw (answer, no, stands, p, f, answered, no) refl;
+              number = rw (exports, no, told, p) refl;
+            }
 
   file-same : (file a l : List ℕ) (word : ℕ) → ledgerFlaw l ≡ 0 → Same (file-export file a word) l
   unfolding fileExport
@@ -92,7 +99,19 @@ module _ (tables : Tables) where
       go (accepted k) e = record { store = rw e refl; answers = rw (e, append-nil) refl; number = rw e (ap refusalIn (sym e) ∙ told) }
 
   export-same : (x : Export) (l : List ℕ) → ledgerFlaw l ≡ 0 → Same x l
-  export-same (record-export sender s a) l h = record-same sender s a l h
+  export-same (record-export sender s a) l h =
+      let call : Call = called sender s in
+      let number = ap (refusalOf tables call) h in
+      let same = in-a-row tables call l in
+      single-same (record-export sender s a) (record-call call) a l (refusalOf tables call 0) (inARow tables call l)
+      (subst (λ (n : ℕ). Decided n (inARow tables call l) l) number (row-decided tables call l)) refl refl refl refl refl refl
+      (λ free. rw same (single-answered tables call l (number ∙ free)))
+  export-same (book-export sender s earlier a) l h =
+      let b : WithEarlier Call = booking (called sender s) earlier in
+      let number = ap (bookingRules tables .refusal b) h in
+      single-same (book-export sender s earlier a) (book-call b) a l (bookingRules tables .refusal b 0) (single (bookingRules tables) b l)
+      (subst (λ (n : ℕ). Decided n (single (bookingRules tables) b l) l) number (single-decided (bookingRules tables) b l)) refl refl refl refl refl refl
+      (λ free. booking-answered tables b l (number ∙ free))
   export-same (file-export file a word) l h = file-same file a l word h
 
   export-in-order : (x : Export) (l : List ℕ) → ledgerFlaw l ≡ 0 → ledgerFlaw (exportOf tables x l .store) ≡ 0
@@ -112,15 +131,17 @@ module _ (tables : Tables) where
         (λ i. one .number i ∷ rest .2 i),
       )
 
-  number-never-four : (x : Export) → soundNumber tables x ≢ 4
-  number-never-four (record-export sender s a) =
-      let n : ℕ = refusalOf tables (called sender s) 0 in
-      go n (ltb (length a) answerSize) (eqb n 0) (refusal-never-four tables (called sender s))
+  short-never-four : (a : List ℕ) (n : ℕ) → n ≢ 4 → shortOr tables a n ≢ 4
+  short-never-four a n = go (ltb (length a) answerSize) (eqb n 0)
     where
-      go : (n : ℕ) (short free : Bool) → n ≢ 4 → cond short (cond free 12 n) n ≢ 4
-      go n true true h = omega arith
-      go n true false h = h
-      go n false free h = h
+      go : (short free : Bool) → n ≢ 4 → cond short (cond free 12 n) n ≢ 4
+      go true true h = omega arith
+      go true false h = h
+      go false free h = h
+
+  number-never-four : (x : Export) → soundNumber tables x ≢ 4
+  number-never-four (record-export sender s a) = short-never-four a _ (refusal-never-four tables (called sender s))
+  number-never-four (book-export sender s earlier a) = short-never-four a _ (booking-never-four tables (booking (called sender s) earlier))
   number-never-four (file-export file a word) = reading-never-four tables file (length a)
 
   never-four : (xs : List Export) → all (λ n. not (eqb n 4)) (map (soundNumber tables) xs) ≡ true
@@ -128,7 +149,7 @@ module _ (tables : Tables) where
   never-four [] = refl
   never-four (x ∷ xs) = and-intro _ _ (ap not (ne-eqb _ 4 (number-never-four x))) (never-four xs)
 
-  -- For every pair of tables, every list of exported calls, refused ones included, and every sound ledger: a single-record call whose buffer is too short is
+  -- For every pair of tables, every list of exported calls, refused ones included, and every sound ledger: a call of one record whose buffer is too short is
   -- no step, and of the others demand 3 holds.
   pub demand3-exports : (xs : List Export) (l : List ℕ) → soundLedger l ≡ true → ExportsIsolated tables xs l
   demand3-exports xs l h =

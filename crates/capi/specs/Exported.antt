@@ -16,7 +16,7 @@ use Rattle.fields.specs.Fields.{fieldPlace}
 use Rattle.identifier.specs.Isin.{digitSum}
 use Rattle.error_file.specs.ErrorFile.{errorFileOf}
 use Rattle.calls.specs.Call.{called}
-use Rattle.calls.specs.Rules.{rules}
+use Rattle.calls.specs.Judging.{booking, bookingRules, judgedOf, inARow}
 use Rattle.calls.specs.Filing.{FileOutcome, fileOf}
 
 -- the number that is returned, and the lent ledger, buffer and words as the call leaves them
@@ -29,14 +29,23 @@ pub record Exported : Type 0 where
 abbrev pub exported : ℕ → List ℕ → List ℕ → List ℕ → Exported
 exported n l a ws = record { reply = n; store = l; buffer = a; words = ws }
 
--- a single-record call: the answer's sixteen bytes at the buffer's start. The last of its refusals is 12, a buffer under sixteen bytes
-abbrev pub recordReply : Outcome (List ℕ) (List ℕ) → List ℕ → List ℕ → Reply (List ℕ) → Exported
-recordReply o l a (refused n) = exported n l a []
-recordReply o l a (accepted w) = cond (ltb (length a) answerSize) (exported 12 l a []) (exported 0 (o .store) (w ++ drop answerSize a) [])
+-- a call of one record: the answer's sixteen bytes at the buffer's start. The last of its refusals is 12, a buffer under sixteen bytes
+abbrev pub singleReply : Outcome (List ℕ) (List ℕ) → List ℕ → List ℕ → Reply (List ℕ) → Exported
+singleReply o l a (refused n) = exported n l a []
+singleReply o l a (accepted w) = cond (ltb (length a) answerSize) (exported 12 l a []) (exported 0 (o .store) (w ++ drop answerSize a) [])
 
-unfoldable pub recordExport : Tables → List ℕ → List ℕ → List ℕ → List ℕ → Exported
-recordExport tables sender «record» l a =
-    let o = single (rules tables) (called sender «record») l in recordReply o l a (o .reply)
+unfoldable pub singleExport : Outcome (List ℕ) (List ℕ) → List ℕ → List ℕ → Exported
+singleExport o l a = singleReply o l a (o .reply)
+
+-- the old single-record call; and of document 02, Item 5, judging, and booking by an earlier answer
+abbrev pub recordExport : Tables → List ℕ → List ℕ → List ℕ → List ℕ → Exported
+recordExport tables sender «record» l a = singleExport (inARow tables (called sender «record») l) l a
+
+abbrev pub judgeExport : Tables → List ℕ → List ℕ → List ℕ → List ℕ → Exported
+judgeExport tables sender «record» l a = singleExport (judgedOf tables (called sender «record») l) l a
+
+abbrev pub bookExport : Tables → List ℕ → List ℕ → List ℕ → List ℕ → List ℕ → Exported
+bookExport tables sender «record» earlier l a = singleExport (single (bookingRules tables) (booking (called sender «record») earlier) l) l a
 
 -- a file call: its count of records in the lent word
 abbrev pub fileReply : FileOutcome → List ℕ → List ℕ → ℕ → Reply ℕ → Exported

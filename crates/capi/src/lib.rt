@@ -3,9 +3,7 @@
 ghost use mathlib.Core.List.{[], _∷_};
 ghost use mathlib.Core.Path.{_≡_};
 ghost use Rattle.tables.specs.Tables.{tablesOf};
-ghost use Rattle.ledger.specs.Sound.{ledgerFlaw};
-ghost use Rattle.calls.specs.Call.{called, refusalOf};
-ghost use Rattle.capi.specs.Exported.{exported, recordExport, fileExport, shortNumber, fieldNumbers, fieldExport, errorExport, sumExport};
+ghost use Rattle.capi.specs.Exported.{exported, recordExport, judgeExport, bookExport, fileExport, shortNumber, fieldNumbers, fieldExport, errorExport, sumExport};
 use calls::Replied;
 use calls::filing::Filed;
 use error_file::Wrote;
@@ -15,17 +13,9 @@ use text::wide;
 const SHORT_BUFFER: u64 = 12;
 
 // The number of a call whose buffer is too short: its own refusal, else 12. Nothing is booked.
-fn short_call<'a>(
-    reporters: &'a [u8],
-    currencies: &'a [u8],
-    ledger: &'a [u8],
-    sender: &'a [u8],
-    record: &'a [u8],
-) -> u64
-    ensures { λ r. ⌜ r ≡ shortNumber (refusalOf (tablesOf (now (reporters .entry)) (now (currencies .entry)))
-        (called (now (sender .entry)) (now («record» .entry))) (ledgerFlaw (now (ledger .entry)))) ⌝ }
+fn short_number(n: u8) -> u64
+    ensures { λ r. ⌜ r ≡ shortNumber n ⌝ }
 {
-    let n = calls::refusal(reporters, currencies, ledger, sender, record);
     if n != 0 { wide(n) } else { SHORT_BUFFER }
 }
 
@@ -44,7 +34,7 @@ pub extern "C" fn roselhanda_record<'a>(
         (now (answer .entry)) ⌝ }
 {
     if answer.len() < answer::SIZE {
-        return short_call(reporters, currencies, ledger, sender, record);
+        return short_number(calls::refusal(reporters, currencies, ledger, sender, record));
     }
     match calls::record_call(reporters, currencies, ledger, sender, record) {
         Replied::Refused(n) => wide(n),
@@ -73,6 +63,66 @@ pub extern "C" fn roselhanda_file<'a>(
         Filed::Refused(n) => wide(n),
         Filed::Count(n) => {
             *records = n as u64;
+            0
+        }
+    }
+}
+
+// Judging: the answer's sixteen bytes at the start of the answer buffer. The ledger is lent for reading only.
+#[no_mangle]
+pub extern "C" fn roselhanda_judge<'a>(
+    reporters: &'a [u8],
+    currencies: &'a [u8],
+    ledger: &'a [u8],
+    sender: &'a [u8],
+    record: &'a [u8],
+    answer: &mut [u8],
+) -> u64
+    ensures { λ r. ⌜ exported r (now (ledger .entry)) (now (answer .exit)) []
+        ≡ judgeExport (tablesOf (now (reporters .entry)) (now (currencies .entry))) (now (sender .entry)) (now («record» .entry)) (now (ledger .entry))
+        (now (answer .entry)) ⌝ }
+{
+    if answer.len() < answer::SIZE {
+        return short_number(calls::refusal(reporters, currencies, ledger, sender, record));
+    }
+    match calls::judge_call(reporters, currencies, ledger, sender, record) {
+        Replied::Refused(n) => wide(n),
+        Replied::Answered(a) => {
+            answer::write(a, answer, 0);
+            0
+        }
+    }
+}
+
+// Booking by an earlier answer: the answer's sixteen bytes at the start of the answer buffer.
+#[no_mangle]
+pub extern "C" fn roselhanda_book<'a>(
+    reporters: &'a [u8],
+    currencies: &'a [u8],
+    ledger: &mut [u8],
+    sender: &'a [u8],
+    record: &'a [u8],
+    earlier: &'a [u8],
+    answer: &mut [u8],
+) -> u64
+    ensures { λ r. ⌜ exported r (now (ledger .exit)) (now (answer .exit)) []
+        ≡ bookExport (tablesOf (now (reporters .entry)) (now (currencies .entry))) (now (sender .entry)) (now («record» .entry)) (now (earlier .entry))
+        (now (ledger .entry)) (now (answer .entry)) ⌝ }
+{
+    if answer.len() < answer::SIZE {
+        return short_number(calls::booking_refusal(
+            reporters,
+            currencies,
+            ledger,
+            sender,
+            record,
+            earlier,
+        ));
+    }
+    match calls::book_call(reporters, currencies, ledger, sender, record, earlier) {
+        Replied::Refused(n) => wide(n),
+        Replied::Answered(a) => {
+            answer::write(a, answer, 0);
             0
         }
     }

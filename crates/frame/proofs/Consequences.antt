@@ -7,15 +7,30 @@ use mathlib.Core.List.{List, [], _∷_, _++_}
 use mathlib.Core.Logic.{_≢_}
 use native.Mathlib.Omega.{arith}
 use lib.Dec.{eqb, ltb}
-use borrow.Author.Tests.{eqb-true, ltb-true}
+use borrow.Author.Tests.{eqb-true, eqb-false, ltb-true, ltb-false}
 use Rattle.frame.specs.Reply.{refused, accepted, mapReply, past}
-use Rattle.frame.specs.Isolation.{Rules, Lawful, act, single, replies, storeAfter, answersFor}
+use Rattle.frame.specs.Isolation.{Rules, Lawful, Outcome, act, single, replies, storeAfter, answersFor}
 use Rattle.frame.specs.Isolation.{isStep, steps, loneAnswers, loneState}
 use Rattle.frame.proofs.BoolLaws.{and-right}
-use Rattle.frame.proofs.Isolation.{isolation, after-in-order}
+use Rattle.frame.proofs.Isolation.{isolation, after-in-order, single-refused, single-stranger, single-step}
+
+-- what a call comes to by its number: answered where that is 0; else refused by it, and the store stays
+pub record Decided {A S : Type 0} (number : ℕ) (o : Outcome A S) (s : S) : Type 0 where
+  pub answers : number ≡ 0 → (a : A) × (o .reply ≡ accepted a)
+  pub refuses : number ≢ 0 → o ≡ record { reply = refused number; store = s }
 
 module _ (R : Rules) where
-  open Rules R using (Call, Store, banks, own, flaw, refusal, bank, judge)
+  open Rules R using (Call, Answer, Store, banks, own, flaw, refusal, bank, judge)
+
+  pub single-decided : (c : Call) (s : Store) → Decided (refusal c (flaw s)) (single R c s) s
+  single-decided c s = record { answers = answered; refuses = single-refused R c s (refusal c (flaw s)) refl }
+    where
+      answered : refusal c (flaw s) ≡ 0 → (a : Answer) × (single R c s .reply ≡ accepted a)
+      answered e = go (ltb (bank c) banks) refl
+        where
+          go : (b : Bool) → ltb (bank c) banks ≡ b → (a : Answer) × (single R c s .reply ≡ accepted a)
+          go true h = (_, ap (λ (o : Outcome Answer Store). o .reply) (single-step R c s _ e refl (ltb-true _ _ h)))
+          go false h = (_, ap (λ (o : Outcome Answer Store). o .reply) (single-stranger R c s e (ltb-false _ _ h)))
 
   -- two stores in order whose parts give the bank of a call the same answer give it the same reply
   pub same-reply : (c : Call) (s t : Store) → flaw s ≡ 0 → flaw t ≡ 0 → (bank c < banks → judge c (own (bank c) s) ≡ judge c (own (bank c) t))
@@ -32,15 +47,15 @@ module _ (R : Rules) where
   pub stranger-blind : (c : Call) (s t : Store) → flaw s ≡ 0 → flaw t ≡ 0 → banks ≤ bank c → single R c s .reply ≡ single R c t .reply
   stranger-blind c s t h k none = same-reply c s t h k (λ inside. absurd (omega arith))
 
-  -- that it is answered or refused is decided by its refusal alone
+  -- how many answers it gives is decided by its number alone
   pub answered-once : (c : Call) (s : Store) → mapReply {B = ℕ} (λ a. 1) (single R c s .reply) ≡ past (refusal c (flaw s)) (accepted 1)
-  unfolding single past
-  answered-once c s = go (refusal c (flaw s)) (eqb (refusal c (flaw s)) 0) (ltb (bank c) banks)
+  unfolding past
+  answered-once c s = go (eqb (refusal c (flaw s)) 0) refl
     where
-      go : (n : ℕ) (f b : Bool) → mapReply {B = ℕ} (λ a. 1) (act R c s n f b .reply) ≡ cond f (accepted 1) (refused n)
-      go n true true = refl
-      go n true false = refl
-      go n false b = refl
+      go : (b : Bool) → eqb (refusal c (flaw s)) 0 ≡ b
+          → mapReply {B = ℕ} (λ a. 1) (single R c s .reply) ≡ cond b (accepted 1) (refused (refusal c (flaw s)))
+      go true e = rw (single-decided c s .answers (eqb-true _ _ e) .1)
+      go false e = rw (single-decided c s .refuses (eqb-false _ _ e))
 
   -- two lists in a row: what they leave and answer
   pub after-append : (bs cs : List Call) (s : Store) → storeAfter R (bs ++ cs) s ≡ storeAfter R cs (storeAfter R bs s)
