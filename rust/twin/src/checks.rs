@@ -24,10 +24,15 @@ pub const CODES: [u16; 64] = [
 ];
 
 /// The set of failed checks, bit k for place k.
-#[derive(Clone, Copy, Default)]
+#[derive(Clone, Copy, Default, PartialEq, Eq)]
 pub struct Failures(u64);
 
 impl Failures {
+    /// The set in a number.
+    pub fn from_bits(bits: u64) -> Self {
+        Failures(bits)
+    }
+
     /// The failure of place 0, which keeps all others from being judged.
     pub fn not_38_semicolons() -> Self {
         Failures(1)
@@ -46,6 +51,11 @@ impl Failures {
     /// The lowest failed place.
     pub fn first(self) -> Option<u8> {
         (!self.is_empty()).then(|| self.0.trailing_zeros() as u8)
+    }
+
+    /// The failures at places 0 to 60, those that no ledger is asked for.
+    pub fn before_booking(self) -> Self {
+        Failures(self.0 & ((1 << 61) - 1))
     }
 
     fn fail_if(&mut self, place: u8, failed: bool) {
@@ -242,10 +252,7 @@ pub fn check_content(fields: &Fields, reporter: Reporter, currencies: Currencies
 /// # Errors
 ///
 /// The failures, if there are any.
-pub fn check_booking(
-    fields: &Fields,
-    compartment: &Compartment,
-) -> Result<Option<usize>, Failures> {
+pub fn check_booking(fields: &Fields, compartment: Compartment) -> Result<Option<usize>, Failures> {
     let (f16, f39) = (fields[15], fields[38]);
     let cancels = compartment.find_live(f16);
     let mut failures = Failures::default();

@@ -110,17 +110,18 @@ fn is_sound(rows: &[Row; ROWS]) -> bool {
         && has_distinct_numbers(filled)
 }
 
-/// A lent ledger that is sound.
-pub struct Ledger<'a>(&'a mut [[Row; ROWS]]);
+/// A ledger that is sound, lent to be read.
+#[derive(Clone, Copy)]
+pub struct Ledger<'a>(&'a [[Row; ROWS]]);
 
 impl<'a> Ledger<'a> {
     /// The ledger in these bytes, if they are a sound one.
-    pub fn read(bytes: &'a mut [u8]) -> Option<Self> {
+    pub fn read(bytes: &'a [u8]) -> Option<Self> {
         if bytes.len() != LEDGER_SIZE {
             return None;
         }
-        let (rows, _) = bytes.as_chunks_mut();
-        let (compartments, _) = rows.as_chunks_mut();
+        let (rows, _) = bytes.as_chunks();
+        let (compartments, _) = rows.as_chunks();
         compartments
             .iter()
             .all(is_sound)
@@ -128,13 +129,54 @@ impl<'a> Ledger<'a> {
     }
 
     /// The compartment of a reporter row.
-    pub fn compartment(&mut self, reporter: usize) -> Compartment<'_> {
-        Compartment(&mut self.0[reporter])
+    pub fn compartment(self, reporter: usize) -> Compartment<'a> {
+        Compartment(&self.0[reporter])
     }
 }
 
-/// One reporter's compartment, sound.
-pub struct Compartment<'a>(&'a mut [Row; ROWS]);
+/// A ledger that is sound, lent to be written.
+pub struct LedgerMut<'a>(&'a mut [[Row; ROWS]]);
+
+impl<'a> LedgerMut<'a> {
+    /// The ledger in these bytes, if they are a sound one.
+    pub fn read(bytes: &'a mut [u8]) -> Option<Self> {
+        Ledger::read(bytes)?;
+        let (rows, _) = bytes.as_chunks_mut();
+        let (compartments, _) = rows.as_chunks_mut();
+        Some(LedgerMut(compartments))
+    }
+
+    /// The ledger to be read.
+    pub fn as_read(&self) -> Ledger<'_> {
+        Ledger(self.0)
+    }
+
+    /// Books an entry in the lowest free row of a reporter's compartment and gives that row's
+    /// number.
+    pub fn book(&mut self, reporter: usize, entry: &Entry) -> usize {
+        let at = self.as_read().compartment(reporter).filled();
+        let rows = &mut self.0[reporter];
+        let row = &mut rows[at];
+        let key = key_of(entry.number).expect("the number was judged");
+        row[1..18].copy_from_slice(&key);
+        row[18..26].copy_from_slice(&entry.quantity.to_le_bytes());
+        row[28] = entry.side;
+        match entry.cancels {
+            None => {
+                row[0] = LIVE;
+                row[26..28].copy_from_slice(&NO_PARTNER.to_le_bytes());
+            }
+            Some(original) => {
+                row[0] = CANCELLATION;
+                set_partner(row, original);
+                let cancelled = &mut rows[original];
+                cancelled[0] = CANCELLED;
+                set_partner(cancelled, at);
+            }
+        }
+        at
+    }
+}
 
 /// What a booking enters into its row.
 pub struct Entry<'a> {
@@ -148,50 +190,30 @@ pub struct Entry<'a> {
     pub cancels: Option<usize>,
 }
 
+/// One reporter's compartment, sound.
+#[derive(Clone, Copy)]
+pub struct Compartment<'a>(&'a [Row; ROWS]);
+
 impl Compartment<'_> {
     /// Number of filled rows, and so of the lowest free row where there is one.
-    fn filled(&self) -> usize {
+    pub fn filled(self) -> usize {
         self.0.partition_point(|row| state(row) != FREE)
     }
 
     /// Whether all rows are filled.
-    pub fn is_full(&self) -> bool {
+    pub fn is_full(self) -> bool {
         state(&self.0[ROWS - 1]) != FREE
     }
 
     /// The filled row with this number.
-    pub fn find(&self, number: &[u8]) -> Option<usize> {
+    pub fn find(self, number: &[u8]) -> Option<usize> {
         let wanted = key_of(number).filter(|_| !number.is_empty())?;
         let filled = &self.0[..self.filled()];
         filled.iter().position(|row| *key(row) == wanted)
     }
 
     /// The live row with this number.
-    pub fn find_live(&self, number: &[u8]) -> Option<usize> {
+    pub fn find_live(self, number: &[u8]) -> Option<usize> {
         self.find(number).filter(|&at| state(&self.0[at]) == LIVE)
-    }
-
-    /// Books an entry in the lowest free row and gives that row's number.
-    pub fn book(&mut self, entry: &Entry) -> usize {
-        let at = self.filled();
-        let row = &mut self.0[at];
-        let key = key_of(entry.number).expect("the number was judged");
-        row[1..18].copy_from_slice(&key);
-        row[18..26].copy_from_slice(&entry.quantity.to_le_bytes());
-        row[28] = entry.side;
-        match entry.cancels {
-            None => {
-                row[0] = LIVE;
-                row[26..28].copy_from_slice(&NO_PARTNER.to_le_bytes());
-            }
-            Some(original) => {
-                row[0] = CANCELLATION;
-                set_partner(row, original);
-                let cancelled = &mut self.0[original];
-                cancelled[0] = CANCELLED;
-                set_partner(cancelled, at);
-            }
-        }
-        at
     }
 }

@@ -17,7 +17,7 @@ pub mod ledger;
 pub mod refusal;
 pub mod tables;
 
-pub use calls::{book_file, book_record};
+pub use calls::{book_file, book_judged, book_record, judge_record};
 pub use error_file::error_file;
 pub use fields::field;
 pub use forms::isin_sum;

@@ -42,6 +42,8 @@ pub enum Refusal {
     GivenDateOrTime = 18,
     /// The buffer is shorter than the error file.
     Room = 19,
+    /// The earlier answer is not 16 bytes, or its places 0 to 60 are not the record's.
+    Earlier = 29,
 }
 
 impl Refusal {
