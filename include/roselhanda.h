@@ -1,5 +1,5 @@
-/* The checks and the ledger of document 01, and the error file and the sum over an ISIN of document
- * 02, for C and C++, on x86-64 Linux.
+/* The checks and the ledger of document 01, and the error file, the sum over an ISIN, and judging
+ * and booking apart of document 02, for C and C++, on x86-64 Linux.
  *
  * Link with target/staticlib/libcapi.a (make lib).
  *
@@ -49,8 +49,9 @@ extern "C" {
 #define ROSELHANDA_REFUSED_NO_TEXT 17      /* a code of the answers is in neither list of texts */
 #define ROSELHANDA_REFUSED_GIVEN_TIME 18   /* the date or time given is not as said below */
 #define ROSELHANDA_REFUSED_ROOM 19         /* no room for what is to be written */
+#define ROSELHANDA_REFUSED_EARLIER 29      /* an earlier answer not as said below */
 
-/* What became of a record: byte 11 of its answer. */
+/* What became of a record, or would where it is only judged: byte 11 of its answer. */
 #define ROSELHANDA_BOOKED 0
 #define ROSELHANDA_SENDER_FAILED 1  /* at places 0 to 6 */
 #define ROSELHANDA_CONTENT_FAILED 2 /* at places 7 to 60 */
@@ -73,6 +74,8 @@ extern "C" {
  *   answer      16 bytes: 0-7 the set of failed checks, bit k for place k; 8-9 the code at the
  *               lowest failed place, 0 for none; 10 the reporter's row; 11 what became of the
  *               record; 12-13 its new row in the compartment; 14-15 its length
+ *   earlier     16 bytes; the set has, at places 0 to 60, the failures of the record by this sender
+ *               and these tables. Places 61 to 63 and the other eight bytes may hold anything
  *   texts       any number of rows of 80 bytes: 0-3 code, four digits that no other row of the
  *               list has; 4-79 its text, bytes from 0x20 to 0x7E other than ', then spaces
  *   date, time  YYYYMMDD in 2000 to 2099, HHMM */
@@ -97,6 +100,29 @@ uint64_t roselhanda_file(const uint8_t *file, uint64_t file_length,
                          uint8_t *ledger, uint64_t ledger_length,
                          uint8_t *answers, uint64_t answers_length,
                          uint64_t *records);
+
+/* Judges one record of a sender, and books nothing.
+ * Writes the answer to the start of answer, the one that roselhanda_record would give on this
+ * ledger.
+ * Refused by 2, 3, 4, 13, 14, 12, in this order. */
+uint64_t roselhanda_judge(const uint8_t *reporters, uint64_t reporters_length,
+                          const uint8_t *currencies, uint64_t currencies_length,
+                          const uint8_t *ledger, uint64_t ledger_length,
+                          const uint8_t *sender, uint64_t sender_length,
+                          const uint8_t *record, uint64_t record_length,
+                          uint8_t *answer, uint64_t answer_length);
+
+/* Books one record of a sender that was judged earlier, on another ledger maybe: does what
+ * roselhanda_record does on this one, for which places 61 to 63 are judged again.
+ * Writes the answer to the start of answer, and the booking to ledger.
+ * Refused by 2, 3, 4, 13, 14, 29, 12, in this order. */
+uint64_t roselhanda_book(const uint8_t *reporters, uint64_t reporters_length,
+                         const uint8_t *currencies, uint64_t currencies_length,
+                         uint8_t *ledger, uint64_t ledger_length,
+                         const uint8_t *sender, uint64_t sender_length,
+                         const uint8_t *record, uint64_t record_length,
+                         const uint8_t *earlier, uint64_t earlier_length,
+                         uint8_t *answer, uint64_t answer_length);
 
 /* Returns where field n, 1 to 39, of a record starts.
  * Writes its length to *length; both are 0 for another n, or for a record without 38 semicolons.
