@@ -22,7 +22,7 @@ pub fn code_of(place: u8) -> Option<u16> {
     CODES.get(usize::from(place)).copied()
 }
 
-/// What became of a record.
+/// What became of a record, or would have where it was only judged.
 #[derive(Clone, Copy, Debug, PartialEq, Eq, Hash)]
 pub enum Status {
     /// No check failed; the record stands in its reporter's compartment.
@@ -84,7 +84,7 @@ impl Answer {
         self.status
     }
 
-    /// Whether no check failed, and so the record was booked.
+    /// Whether no check failed, and so the record was booked, or would have been.
     pub fn is_booked(&self) -> bool {
         self.status == Status::Booked
     }

@@ -101,6 +101,92 @@ pub fn book_file(
     Ok(answers[..records as usize].iter().map(written).collect())
 }
 
+/// Judges one record of a sender, and books nothing: the answer that [`book_record`] would give.
+///
+/// A status [`Status::Booked`] and a row then say what would become of the record, were it booked
+/// now. [`book_judged`] takes the answer later on.
+///
+/// ```
+/// use roselhanda::{book_judged, book_record, judge_record, Ledger, Refusal, Status, Tables};
+///
+/// let tables = Tables::new(b"98001AAAAATW1XXXMBONE   \0\0\0\0\0\0\0\0", b"CHFEURUSD");
+/// let mut ledger = Ledger::new();
+/// let record = |quantity: u32| {
+///     format!(
+///         "B;98001;I;4711;;;B;20130903;101500;;;;;WBAH;J;;;N;S;AT0000831706;XXX;{quantity};1;\
+///          EUR;54,7;;;K;;;;;;;;;;N;A1"
+///     )
+///     .into_bytes()
+/// };
+///
+/// // In the morning nothing speaks against it, and nothing is booked.
+/// let earlier = judge_record(&tables, &ledger, b"MBONE", &record(1500))?;
+/// assert_eq!((earlier.status(), earlier.booked_row()), (Status::Booked, Some(0)));
+/// assert_eq!(ledger, Ledger::new());
+///
+/// // At noon another record takes its number, and in the evening it fails.
+/// assert!(book_record(&tables, &mut ledger, b"MBONE", &record(20))?.is_booked());
+/// let answer = book_judged(&tables, &mut ledger, b"MBONE", &record(1500), &earlier)?;
+/// assert_eq!(answer.to_string(), "9392 1 0");
+///
+/// // An earlier answer without failures does not belong to a record that has some.
+/// let refusal = book_judged(&tables, &mut ledger, b"MBONE", &record(0), &earlier).unwrap_err();
+/// assert_eq!(refusal.number(), 29);
+/// # Ok::<(), Refusal>(())
+/// ```
+///
+/// # Errors
+///
+/// Refused by 2, 3, 4, 13 or 14, the first that applies.
+pub fn judge_record(
+    tables: &Tables,
+    ledger: &Ledger,
+    sender: &[u8],
+    record: &[u8],
+) -> Result<Answer, Refusal> {
+    let mut answer = [0; ANSWER_SIZE];
+    carried_out(raw::judge(
+        &tables.reporters,
+        &tables.currencies,
+        ledger.as_bytes(),
+        sender,
+        record,
+        &mut answer,
+    ))?;
+    Ok(written(&answer))
+}
+
+/// Books one record of a sender that was judged earlier: does and answers what [`book_record`]
+/// would on this ledger.
+///
+/// The earlier answer is the one that [`judge_record`] gave, or that [`Answer::from_bytes`] made of
+/// a stored one. Of it only the failures at places 0 to 60 are read, which have to be the record's;
+/// places 61 to 63 are judged again, on the ledger as it is now. The example of [`judge_record`]
+/// shows both.
+///
+/// # Errors
+///
+/// Refused by 2, 3, 4, 13, 14 or 29, the first that applies; the ledger then stays as it was.
+pub fn book_judged(
+    tables: &Tables,
+    ledger: &mut Ledger,
+    sender: &[u8],
+    record: &[u8],
+    earlier: &Answer,
+) -> Result<Answer, Refusal> {
+    let mut answer = [0; ANSWER_SIZE];
+    carried_out(raw::book(
+        &tables.reporters,
+        &tables.currencies,
+        ledger.as_mut_bytes(),
+        sender,
+        record,
+        earlier.as_bytes(),
+        &mut answer,
+    ))?;
+    Ok(written(&answer))
+}
+
 /// Field `n` of a record, 1 to 39, as a part of it: the empty part at its start for another
 /// number, or for a record without 38 semicolons.
 pub fn field(record: &[u8], n: usize) -> &[u8] {

@@ -34,6 +34,38 @@ mod archive {
             records: *mut u64,
         ) -> u64;
 
+        pub fn roselhanda_judge(
+            reporters: *const u8,
+            reporters_length: usize,
+            currencies: *const u8,
+            currencies_length: usize,
+            ledger: *const u8,
+            ledger_length: usize,
+            sender: *const u8,
+            sender_length: usize,
+            record: *const u8,
+            record_length: usize,
+            answer: *mut u8,
+            answer_length: usize,
+        ) -> u64;
+
+        pub fn roselhanda_book(
+            reporters: *const u8,
+            reporters_length: usize,
+            currencies: *const u8,
+            currencies_length: usize,
+            ledger: *mut u8,
+            ledger_length: usize,
+            sender: *const u8,
+            sender_length: usize,
+            record: *const u8,
+            record_length: usize,
+            earlier: *const u8,
+            earlier_length: usize,
+            answer: *mut u8,
+            answer_length: usize,
+        ) -> u64;
+
         pub fn roselhanda_field(
             record: *const u8,
             record_length: usize,
@@ -117,6 +149,68 @@ pub fn file(
             answers.as_mut_ptr(),
             answers.len(),
             records,
+        )
+    }
+}
+
+/// Judging alone: writes the answer that [`record`] would give to the start of `answer`.
+pub fn judge(
+    reporters: &[u8],
+    currencies: &[u8],
+    ledger: &[u8],
+    sender: &[u8],
+    record: &[u8],
+    answer: &mut [u8],
+) -> u64 {
+    // SAFETY: each pointer comes with the length of its slice, the slices live through the call,
+    // and the one that is written is borrowed alone.
+    unsafe {
+        archive::roselhanda_judge(
+            reporters.as_ptr(),
+            reporters.len(),
+            currencies.as_ptr(),
+            currencies.len(),
+            ledger.as_ptr(),
+            ledger.len(),
+            sender.as_ptr(),
+            sender.len(),
+            record.as_ptr(),
+            record.len(),
+            answer.as_mut_ptr(),
+            answer.len(),
+        )
+    }
+}
+
+/// Booking what was judged earlier: writes the answer to the start of `answer` and the booking to
+/// `ledger`, as [`record`] does. Any bytes may be lent as the earlier answer.
+pub fn book(
+    reporters: &[u8],
+    currencies: &[u8],
+    ledger: &mut [u8],
+    sender: &[u8],
+    record: &[u8],
+    earlier: &[u8],
+    answer: &mut [u8],
+) -> u64 {
+    // SAFETY: each pointer comes with the length of its slice, the slices live through the call,
+    // and the two that are written are borrowed alone.
+    unsafe {
+        archive::roselhanda_book(
+            reporters.as_ptr(),
+            reporters.len(),
+            currencies.as_ptr(),
+            currencies.len(),
+            ledger.as_mut_ptr(),
+            ledger.len(),
+            sender.as_ptr(),
+            sender.len(),
+            record.as_ptr(),
+            record.len(),
+            earlier.as_ptr(),
+            earlier.len(),
+            answer.as_mut_ptr(),
+            answer.len(),
         )
     }
 }

@@ -12,7 +12,7 @@ impl Refusal {
         Refusal(number)
     }
 
-    /// The number that documents 01 and 02 give this refusal, 1 to 19.
+    /// The number that documents 01 and 02 give this refusal: 1 to 19, or 29.
     pub fn number(self) -> u64 {
         self.0
     }
@@ -39,6 +39,7 @@ impl Refusal {
             17 => "a code of the answers has a text in neither list",
             18 => "the error file is dated on a day or at a time that does not exist",
             19 => "there is no room for the error file",
+            29 => "the earlier answer has the wrong size, or not the failures of this record",
             _ => "no reason is known for this number",
         }
     }

@@ -1,8 +1,8 @@
 //! The worked inputs of document 01 through the safe calls.
 
 use roselhanda::{
-    book_file, book_record, code_of, error_file, field, Answer, Ledger, Refusal, Status, Tables,
-    LEDGER_SIZE, TEXT_ROW_SIZE,
+    book_file, book_judged, book_record, code_of, error_file, field, judge_record, Answer, Ledger,
+    Refusal, Status, Tables, LEDGER_SIZE, TEXT_ROW_SIZE,
 };
 
 const REPORTERS: &[u8] = b"98001AAAAATW1XXXMBONE   \0\0\0\0\0\0\0\0\
@@ -57,6 +57,77 @@ fn a_file_is_its_single_calls() {
         .map(|record| book_record(&tables(), &mut singly, b"MBONE", record.as_bytes()).unwrap());
     assert!(single.eq(answers));
     assert_eq!(together, singly);
+}
+
+#[test]
+fn judged_and_booked_in_a_row() {
+    let (mut at_once, mut apart) = (Ledger::new(), Ledger::new());
+    for record in REPORT.lines().skip(1).take(5) {
+        let record = record.as_bytes();
+        let before = apart.clone();
+        let earlier = judge_record(&tables(), &apart, b"MBONE", record).unwrap();
+        assert_eq!(apart, before);
+        let answer = book_record(&tables(), &mut at_once, b"MBONE", record).unwrap();
+        assert_eq!(earlier, answer);
+        let booked = book_judged(&tables(), &mut apart, b"MBONE", record, &earlier);
+        assert_eq!(booked, Ok(answer));
+        assert_eq!(apart, at_once);
+    }
+}
+
+#[test]
+fn judged_in_the_morning_and_booked_in_the_evening() {
+    let records = || REPORT.lines().skip(1).take(5).map(str::as_bytes);
+    let morning = Ledger::new();
+    let judged: Vec<Answer> = records()
+        .map(|record| judge_record(&tables(), &morning, b"MBONE", record).unwrap())
+        .collect();
+    let lines: Vec<String> = judged.iter().map(Answer::to_string).collect();
+    // Each by itself: nothing is there yet that the third and the fourth could cancel.
+    assert_eq!(
+        lines,
+        ["0000 0 0", "0024 1 -", "0161 1 0", "0161 1 0", "0282 2 0"]
+    );
+
+    let mut evening = Ledger::new();
+    let booked = records()
+        .zip(&judged)
+        .map(|(record, earlier)| book_judged(&tables(), &mut evening, b"MBONE", record, earlier));
+    let booked: Result<Vec<Answer>, Refusal> = booked.collect();
+    let mut at_once = Ledger::new();
+    assert_eq!(
+        booked,
+        book_file(&tables(), &mut at_once, REPORT.as_bytes())
+    );
+    assert_eq!(evening, at_once);
+}
+
+#[test]
+fn an_earlier_answer_of_another_record() {
+    let records: Vec<&[u8]> = REPORT.lines().skip(1).take(5).map(str::as_bytes).collect();
+    let mut ledger = Ledger::new();
+    let [sound, strange] =
+        [0, 1].map(|at| judge_record(&tables(), &ledger, b"MBONE", records[at]).unwrap());
+    let mut number = |sender, record, earlier| {
+        let booked = book_judged(&tables(), &mut ledger, sender, record, earlier);
+        booked.map_or_else(Refusal::number, |_| 0)
+    };
+    assert_eq!(number(b"MBONE", records[0], &strange), 29);
+    assert_eq!(number(b"MBONE", records[1], &sound), 29);
+    // The bank's own mailbox: what failed for the sender does not fail for it.
+    assert_eq!(number(b"MBTWO", records[1], &strange), 29);
+    assert_eq!(number(b"", records[0], &strange), 13);
+    assert_eq!(number(b"MBONE", b"'", &strange), 14);
+    assert_eq!(ledger, Ledger::new());
+
+    let refusal = book_judged(&tables(), &mut ledger, b"MBONE", records[0], &strange).unwrap_err();
+    assert_eq!(
+        refusal.to_string(),
+        "refused 29: the earlier answer has the wrong size, or not the failures of this record"
+    );
+    // Failures of another record that are the same ones will do.
+    let booked = book_judged(&tables(), &mut ledger, b"MBTWO", records[1], &sound);
+    assert_eq!(booked.unwrap().status(), Status::Booked);
 }
 
 #[test]
