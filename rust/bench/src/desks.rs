@@ -5,7 +5,7 @@ use std::hint::black_box;
 use roselhanda::raw;
 
 use crate::error_rows;
-use crate::rows::{Inputs, ANSWER_SIZE};
+use crate::rows::{Function, Inputs, ANSWER_SIZE};
 use crate::sum_rows;
 
 #[derive(Clone, Copy, PartialEq, Eq)]
@@ -35,7 +35,7 @@ pub trait Desk {
     fn bytes(&self) -> Option<usize>;
 }
 
-/// A single-record call or a file call.
+/// A single-record call, judging or booking alone, or a file call.
 pub struct Booking {
     inputs: Inputs,
     ledger: Vec<u8>,
@@ -63,37 +63,53 @@ impl Desk for Booking {
             currencies,
             sender,
             text,
-            is_file,
+            earlier,
+            function,
             ..
         } = &self.inputs;
         let (ledger, answers) = (&mut self.ledger, &mut self.answers);
-        match (side, is_file) {
-            (Side::Proved, true) => {
-                let mut count = 0;
-                match raw::file(text, reporters, currencies, ledger, answers, &mut count) {
+        let mut count = 1;
+        match side {
+            Side::Proved => {
+                let reply = match function {
+                    Function::Record => {
+                        raw::record(reporters, currencies, ledger, sender, text, answers)
+                    }
+                    Function::Judge => {
+                        raw::judge(reporters, currencies, ledger, sender, text, answers)
+                    }
+                    Function::Book => raw::book(
+                        reporters, currencies, ledger, sender, text, earlier, answers,
+                    ),
+                    Function::File => {
+                        raw::file(text, reporters, currencies, ledger, answers, &mut count)
+                    }
+                };
+                match reply {
                     0 => Ok(count),
                     number => Err(number),
                 }
             }
-            (Side::Proved, false) => {
-                match raw::record(reporters, currencies, ledger, sender, text, answers) {
-                    0 => Ok(1),
-                    number => Err(number),
-                }
-            }
-            (Side::Twin, true) => {
-                match twin::book_file(text, reporters, currencies, ledger, answers) {
-                    Ok(count) => Ok(count as u64),
+            Side::Twin => {
+                let called = match function {
+                    Function::Record => {
+                        twin::book_record(reporters, currencies, ledger, sender, text, answers)
+                    }
+                    Function::Judge => {
+                        twin::judge_record(reporters, currencies, ledger, sender, text, answers)
+                    }
+                    Function::Book => twin::book_judged(
+                        reporters, currencies, ledger, sender, text, earlier, answers,
+                    ),
+                    Function::File => twin::book_file(text, reporters, currencies, ledger, answers)
+                        .map(|records| count = records as u64),
+                };
+                match called {
+                    Ok(()) => Ok(count),
                     Err(refusal) => Err(refusal.number()),
                 }
             }
-            (Side::Twin, false) => {
-                match twin::book_record(reporters, currencies, ledger, sender, text, answers) {
-                    Ok(()) => Ok(1),
-                    Err(refusal) => Err(refusal.number()),
-                }
-            }
-            (Side::None, _) => Ok(0),
+            Side::None => Ok(0),
         }
     }
 

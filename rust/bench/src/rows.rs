@@ -1,4 +1,4 @@
-//! The inputs of single-record calls and of file calls.
+//! The inputs of single-record calls, of judging and booking apart, and of file calls.
 
 use crate::desks::{Booking, Desk, Outcome};
 
@@ -31,6 +31,10 @@ pub enum Call {
     BlankFile(usize),
     /// One valid record.
     Single,
+    /// One valid record, judged alone.
+    Judge,
+    /// One valid record, booked with an earlier answer.
+    Book,
     /// Valid records in a file, and no room for an answer: refused by 12 once the file is opened.
     Opened(usize),
     /// The same with a head that is none: refused by 5, and never opened.
@@ -90,9 +94,13 @@ const fn worst(name: &'static str, call: Call, fill: Fill, numbers: Numbers) -> 
 }
 
 /// The usual cases.
-pub const USUAL: [Row; 18] = [
+pub const USUAL: [Row; 22] = [
     row("single-empty", Call::Single, Fill::Empty),
     row("single-full", Call::Single, Fill::Full),
+    row("judge-empty", Call::Judge, Fill::Empty),
+    row("judge-full", Call::Judge, Fill::Full),
+    row("book-empty", Call::Book, Fill::Empty),
+    row("book-full", Call::Book, Fill::Full),
     row("file-1-empty", Call::File(1), Fill::Empty),
     row("file-1-half", Call::File(1), Fill::Half),
     row("file-1-full", Call::File(1), Fill::Full),
@@ -130,20 +138,31 @@ pub const WORST: [Row; 5] = [
     row("blank-250-empty", Call::BlankFile(250), Fill::Empty),
 ];
 
+/// The function that a row calls.
+#[derive(Clone, Copy)]
+pub enum Function {
+    Record,
+    Judge,
+    Book,
+    File,
+}
+
 /// What a row's call is lent.
 pub struct Inputs {
+    pub function: Function,
     pub reporters: Vec<u8>,
     pub currencies: Vec<u8>,
     pub ledger: Vec<u8>,
     pub sender: Vec<u8>,
-    /// The record of a single call, else the file.
+    /// The file of a file call, else the record.
     pub text: Vec<u8>,
-    pub is_file: bool,
+    /// An earlier answer without failures, which fits a valid record.
+    pub earlier: [u8; ANSWER_SIZE],
     /// Answers that there is room for.
     pub room: usize,
     /// What the call has to come to.
     pub due: Outcome,
-    /// Records that are to be booked.
+    /// Records that are to be booked, or would be.
     pub booked: usize,
 }
 
@@ -152,7 +171,7 @@ impl Row {
         let record = |at| valid_record(at, &self.numbers.of_record(at));
         let valid = |count| file((0..count).map(record));
         let (text, room) = match self.call {
-            Call::Single => (record(0).into_bytes(), 1),
+            Call::Single | Call::Judge | Call::Book => (record(0).into_bytes(), 1),
             Call::File(count) => (valid(count), count),
             Call::ShortFile(count) => (file((0..count).map(short_record)), count),
             Call::SpacedFile(count) => (file((0..count).map(spaced_record)), count),
@@ -171,6 +190,12 @@ impl Row {
             _ => room,
         };
         Inputs {
+            function: match self.call {
+                Call::Single => Function::Record,
+                Call::Judge => Function::Judge,
+                Call::Book => Function::Book,
+                _ => Function::File,
+            },
             reporters: (0..BANKS).flat_map(reporter).collect(),
             currencies: currencies(),
             ledger: ledger(
@@ -183,7 +208,7 @@ impl Row {
             ),
             sender: SENDER.into(),
             text,
-            is_file: !matches!(self.call, Call::Single),
+            earlier: [0; ANSWER_SIZE],
             room,
             due,
             booked,
