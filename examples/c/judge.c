@@ -1,4 +1,5 @@
-/* Document 01's record R1 by a call of its own, R1 to R5 as a file, a refused call, and empty arguments. */
+/* Document 01's record R1 by a call of its own, R1 to R5 as a file, a refused call, R1 judged and booked apart, and
+ * empty arguments. */
 #include <inttypes.h>
 #include <stdio.h>
 #include <string.h>
@@ -29,6 +30,7 @@ static const char currencies[] = "CHFEURUSD";
 
 static uint8_t ledger[ROSELHANDA_LEDGER_SIZE], old_ledger[sizeof ledger];
 static uint8_t answers[5 * ROSELHANDA_ANSWER_SIZE], old_answers[sizeof answers];
+static uint8_t earlier[ROSELHANDA_ANSWER_SIZE];
 
 static void show(const char *name, const uint8_t *answer) {
     printf("%s code %04d status %d", name, answer[8] + 256 * answer[9], answer[11]);
@@ -48,7 +50,13 @@ int main(void) {
     start = roselhanda_field(LENT(r1), 20, &length);
     printf("field 20 is %.*s, the booked number %.*s\n", (int)length, r1 + start, ledger[1], (char *)ledger + 2);
 
+    /* Tried in the morning: the ledger is lent to be read. */
     memset(ledger, 0, sizeof ledger);
+    reply = roselhanda_judge(LENT(reporters), LENT(currencies), ledger, sizeof ledger, LENT("MBONE"), LENT(r1),
+                             earlier, sizeof earlier);
+    printf("judged alone: reply %" PRIu64 "\n", reply);
+    show("R1 would have", earlier);
+
     reply = roselhanda_file(LENT(file), LENT(reporters), LENT(currencies), ledger, sizeof ledger,
                             answers, sizeof answers, &records);
     printf("a file: reply %" PRIu64 ", records %" PRIu64 "\n", reply, records);
@@ -64,6 +72,15 @@ int main(void) {
     printf("too little room: reply %" PRIu64 ", records %" PRIu64 ", ledger %s, answers %s\n", reply, records,
            memcmp(ledger, old_ledger, sizeof ledger) ? "changed" : "kept",
            memcmp(answers, old_answers, sizeof answers) ? "changed" : "kept");
+
+    /* R1 in the evening: the file has booked its number. The answer to R5 is none to R1. */
+    reply = roselhanda_book(LENT(reporters), LENT(currencies), ledger, sizeof ledger, LENT("MBONE"), LENT(r1),
+                            earlier, sizeof earlier, answers, sizeof answers);
+    printf("booked with the earlier answer: reply %" PRIu64 "\n", reply);
+    show("R1", answers);
+    reply = roselhanda_book(LENT(reporters), LENT(currencies), ledger, sizeof ledger, LENT("MBONE"), LENT(r1),
+                            answers + 4 * ROSELHANDA_ANSWER_SIZE, ROSELHANDA_ANSWER_SIZE, earlier, sizeof earlier);
+    printf("with the answer to R5: reply %" PRIu64 "\n", reply);
 
     /* No reporters, no currencies, a record of no bytes: null pointers. */
     reply = roselhanda_record(NULL, 0, NULL, 0, ledger, sizeof ledger, LENT("MBONE"), NULL, 0, answers, sizeof answers);
