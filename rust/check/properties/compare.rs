@@ -3,7 +3,8 @@
 use roselhanda::raw;
 use roselhanda::ANSWER_SIZE;
 
-/// Arguments of a single-record call; `room` is the length of its answer buffer.
+/// Arguments of a single-record call, or of judging alone; `room` is the length of its answer
+/// buffer.
 #[derive(Clone, Copy)]
 pub struct RecordCall<'a> {
     pub reporters: &'a [u8],
@@ -12,6 +13,23 @@ pub struct RecordCall<'a> {
     pub sender: &'a [u8],
     pub record: &'a [u8],
     pub room: usize,
+}
+
+/// Arguments of a booking: those of a single-record call, and any bytes as the earlier answer.
+#[derive(Clone, Copy)]
+pub struct BookCall<'a> {
+    pub call: RecordCall<'a>,
+    pub earlier: &'a [u8],
+}
+
+impl<'a> RecordCall<'a> {
+    /// The same record booked with an earlier answer.
+    pub fn booking(self, earlier: &'a [u8]) -> BookCall<'a> {
+        BookCall {
+            call: self,
+            earlier,
+        }
+    }
 }
 
 /// Arguments of a whole-file call; `room` is the length of its answer buffer.
@@ -41,8 +59,10 @@ pub struct ErrorCall<'a> {
 pub type Outcome = Result<u64, u64>;
 
 /// What the proved side left behind.
+#[derive(Clone, PartialEq, Eq)]
 pub struct Left {
     pub outcome: Outcome,
+    /// Empty where the call writes none.
     pub ledger: Vec<u8>,
     /// What it wrote to its buffer: answers, or an error file.
     pub written: Vec<u8>,
@@ -155,9 +175,75 @@ impl Sides {
             call.record,
             twin_answer.bytes_mut(),
         );
-        let proved = if reply == 0 { Ok(1) } else { Err(reply) };
-        let twin = twin.map(|()| 1).map_err(twin::Refusal::number);
-        self.compare(inputs, call.ledger, proved, twin, ANSWER_SIZE)
+        self.compare_single(inputs, call.ledger, reply, twin)
+    }
+
+    /// Makes the call of both sides; the proved side's outcome is left in `left`. The ledger is an
+    /// input, and has to stay as it is.
+    pub fn judge(&mut self, call: &RecordCall) -> Result<(), String> {
+        let inputs = [
+            call.reporters,
+            call.currencies,
+            call.sender,
+            call.record,
+            call.ledger,
+            &[],
+        ];
+        self.hold(inputs, &[], call.room);
+        let [proved_answer, twin_answer] = &mut self.outs;
+        let [reporters, currencies, sender, record, ledger, _] = &self.inputs;
+        let reply = raw::judge(
+            reporters.bytes(),
+            currencies.bytes(),
+            ledger.bytes(),
+            sender.bytes(),
+            record.bytes(),
+            proved_answer.bytes_mut(),
+        );
+        let twin = twin::judge_record(
+            call.reporters,
+            call.currencies,
+            call.ledger,
+            call.sender,
+            call.record,
+            twin_answer.bytes_mut(),
+        );
+        self.compare_single(inputs, &[], reply, twin)
+    }
+
+    /// Makes the call of both sides; the proved side's outcome is left in `left`.
+    pub fn book(&mut self, BookCall { call, earlier }: &BookCall) -> Result<(), String> {
+        let inputs = [
+            call.reporters,
+            call.currencies,
+            call.sender,
+            call.record,
+            earlier,
+            &[],
+        ];
+        self.hold(inputs, call.ledger, call.room);
+        let [proved_ledger, twin_ledger] = &mut self.ledgers;
+        let [proved_answer, twin_answer] = &mut self.outs;
+        let [reporters, currencies, sender, record, lent_earlier, _] = &self.inputs;
+        let reply = raw::book(
+            reporters.bytes(),
+            currencies.bytes(),
+            proved_ledger.bytes_mut(),
+            sender.bytes(),
+            record.bytes(),
+            lent_earlier.bytes(),
+            proved_answer.bytes_mut(),
+        );
+        let twin = twin::book_judged(
+            call.reporters,
+            call.currencies,
+            twin_ledger.bytes_mut(),
+            call.sender,
+            call.record,
+            earlier,
+            twin_answer.bytes_mut(),
+        );
+        self.compare_single(inputs, call.ledger, reply, twin)
     }
 
     /// Makes the call of both sides; the proved side's outcome is left in `left`.
@@ -230,6 +316,19 @@ impl Sides {
             .map_err(twin::Refusal::number);
         self.compare(inputs, &[], proved, twin, 1)?;
         words_kept(reply, words)
+    }
+
+    /// Compares what both sides did with one record.
+    fn compare_single(
+        &mut self,
+        inputs: [&[u8]; 6],
+        ledger: &[u8],
+        reply: u64,
+        twin: Result<(), twin::Refusal>,
+    ) -> Result<(), String> {
+        let proved = if reply == 0 { Ok(1) } else { Err(reply) };
+        let twin = twin.map(|()| 1).map_err(twin::Refusal::number);
+        self.compare(inputs, ledger, proved, twin, ANSWER_SIZE)
     }
 
     /// Compares what both sides did; an accepted call has written so many bytes for each that its

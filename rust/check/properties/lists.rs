@@ -1,11 +1,12 @@
-//! Lists of exported calls on one ledger, single records and files in a random mix, and demand 3
-//! over them.
+//! Lists of exported calls on one ledger, single records, files and bookings with earlier answers
+//! in a random mix, and demand 3 over them and over bookings alone.
 
 use roselhanda::raw;
 use roselhanda::{Answer, ANSWER_SIZE};
 
 use crate::compare::{FileCall, Outcome, RecordCall};
 use crate::files::{control_word, damage, Parts};
+use crate::judging::{redrawn, unfit, Apart};
 use crate::records::{edit, valid, Setting};
 use crate::rng::Rng;
 use crate::tally::Check;
@@ -17,12 +18,21 @@ type AnswerBytes = [u8; ANSWER_SIZE];
 /// One call of a list; its tables and the ledger are the list's.
 struct Call {
     sender: Vec<u8>,
-    /// The one of a single call; those of a file, unless it is damaged.
+    /// The one of a single call or a booking; those of a file, unless it is damaged.
     records: Vec<Vec<u8>>,
-    /// `None` for a single call.
-    file: Option<Vec<u8>>,
+    kind: Kind,
     room: usize,
 }
+
+enum Kind {
+    Single,
+    /// With this earlier answer.
+    Booking(Vec<u8>),
+    File(Vec<u8>),
+}
+
+/// How the calls of a list are drawn: for these tables, and the ledger as it stands.
+type Draw = fn(&mut Rng, &World, &[u8]) -> Call;
 
 /// A record of a bank: mostly valid, with numbers from a small stock so that bookings meet.
 fn record(rng: &mut Rng, world: &World, ledger: &[u8], bank: usize) -> Vec<u8> {
@@ -57,8 +67,39 @@ fn single_call(rng: &mut Rng, world: &World, ledger: &[u8]) -> Call {
     Call {
         sender,
         records: vec![record],
-        file: None,
+        kind: Kind::Single,
         room,
+    }
+}
+
+/// A single call as a booking. The record was judged on the ledger as it stands, or on an empty one
+/// before; some earlier answers do not fit it.
+fn booking_call(rng: &mut Rng, world: &World, ledger: &[u8]) -> Call {
+    let call = single_call(rng, world, ledger);
+    let mut answer = [0; ANSWER_SIZE];
+    let morning: &[u8] = if rng.chance(50) {
+        ledger
+    } else {
+        &[0; LEDGER_SIZE]
+    };
+    // A call that is refused leaves the zeros, and will be refused again.
+    let _ = twin::judge_record(
+        &world.reporters,
+        &world.currencies,
+        morning,
+        &call.sender,
+        &call.records[0],
+        &mut answer,
+    );
+    let earlier = match rng.below(10) {
+        0 | 1 => unfit(rng, &answer),
+        2 => rng.bytes(ANSWER_SIZE),
+        3..=5 => redrawn(rng, &answer),
+        _ => answer.to_vec(),
+    };
+    Call {
+        kind: Kind::Booking(earlier),
+        ..call
     }
 }
 
@@ -86,24 +127,25 @@ fn file_call(rng: &mut Rng, world: &World, ledger: &[u8]) -> Call {
         _ => {}
     }
     Call {
-        file: Some(parts.to_bytes()),
+        kind: Kind::File(parts.to_bytes()),
         sender,
         records,
         room,
     }
 }
 
-fn call(rng: &mut Rng, world: &World, ledger: &[u8]) -> Call {
-    if rng.chance(30) {
-        file_call(rng, world, ledger)
-    } else {
-        single_call(rng, world, ledger)
+/// A call of any kind.
+fn any_call(rng: &mut Rng, world: &World, ledger: &[u8]) -> Call {
+    match rng.below(10) {
+        0..=2 => file_call(rng, world, ledger),
+        3..=5 => booking_call(rng, world, ledger),
+        _ => single_call(rng, world, ledger),
     }
 }
 
 /// Lists over all banks, both sides compared after each call.
 pub fn lists(check: &mut Check, rng: &mut Rng, count: usize) {
-    check.section("lists of calls and files");
+    check.section("lists of calls, files and bookings");
     for list in 0..count {
         let banks = if list % 4 == 0 { rng.within(1..=4) } else { 16 };
         let world = World::random(rng, banks);
@@ -112,17 +154,19 @@ pub fn lists(check: &mut Check, rng: &mut Rng, count: usize) {
         // Few banks and many calls fill compartments.
         let length = if list % 4 == 0 { 200 } else { 100 };
         for _ in 0..length {
-            let call = call(rng, &world, &shared);
-            let left = match &call.file {
-                None => check.record(&RecordCall {
-                    reporters: &world.reporters,
-                    currencies: &world.currencies,
-                    ledger: &shared,
-                    sender: &call.sender,
-                    record: &call.records[0],
-                    room: call.room,
-                }),
-                Some(file) => check.file(&FileCall {
+            let call = any_call(rng, &world, &shared);
+            let single = || RecordCall {
+                reporters: &world.reporters,
+                currencies: &world.currencies,
+                ledger: &shared,
+                sender: &call.sender,
+                record: &call.records[0],
+                room: call.room,
+            };
+            let left = match &call.kind {
+                Kind::Single => check.record(&single()),
+                Kind::Booking(earlier) => check.book(&single().booking(earlier)),
+                Kind::File(file) => check.file(&FileCall {
                     file,
                     reporters: &world.reporters,
                     currencies: &world.currencies,
@@ -139,8 +183,8 @@ pub fn lists(check: &mut Check, rng: &mut Rng, count: usize) {
 fn proved(world: &World, ledger: &mut [u8], call: &Call) -> (Outcome, Vec<AnswerBytes>) {
     let mut answers = vec![0xa5; call.room];
     let mut count = 1;
-    let reply = match &call.file {
-        None => raw::record(
+    let reply = match &call.kind {
+        Kind::Single => raw::record(
             &world.reporters,
             &world.currencies,
             ledger,
@@ -148,7 +192,16 @@ fn proved(world: &World, ledger: &mut [u8], call: &Call) -> (Outcome, Vec<Answer
             &call.records[0],
             &mut answers,
         ),
-        Some(file) => raw::file(
+        Kind::Booking(earlier) => raw::book(
+            &world.reporters,
+            &world.currencies,
+            ledger,
+            &call.sender,
+            &call.records[0],
+            earlier,
+            &mut answers,
+        ),
+        Kind::File(file) => raw::file(
             file,
             &world.reporters,
             &world.currencies,
@@ -164,10 +217,12 @@ fn proved(world: &World, ledger: &mut [u8], call: &Call) -> (Outcome, Vec<Answer
     (Ok(count), answers[..count as usize].to_vec())
 }
 
-/// One record of a list that was judged, by its sender, with its answer.
+/// One record of a list that was judged, by its sender, with its answer; of a booking, also with
+/// the earlier one.
 struct Judged<'a> {
     sender: &'a [u8],
     record: &'a [u8],
+    earlier: Option<&'a [u8]>,
     answer: AnswerBytes,
 }
 
@@ -178,17 +233,28 @@ impl Judged<'_> {
         answer.reporter_row().map(usize::from)
     }
 
-    /// Whether a single call on this ledger gives the same answer.
-    fn again(&self, world: &World, ledger: &mut [u8]) -> bool {
+    /// Whether a single call on this ledger, or a booking where there is an earlier answer, gives
+    /// the same answer.
+    fn again(&self, world: &World, ledger: &mut [u8], earlier: Option<&[u8]>) -> bool {
+        let World {
+            reporters,
+            currencies,
+            ..
+        } = world;
+        let (sender, record) = (self.sender, self.record);
         let mut answer = [0xa5; ANSWER_SIZE];
-        let reply = raw::record(
-            &world.reporters,
-            &world.currencies,
-            ledger,
-            self.sender,
-            self.record,
-            &mut answer,
-        );
+        let reply = match earlier {
+            None => raw::record(reporters, currencies, ledger, sender, record, &mut answer),
+            Some(earlier) => raw::book(
+                reporters,
+                currencies,
+                ledger,
+                sender,
+                record,
+                earlier,
+                &mut answer,
+            ),
+        };
         reply == 0 && answer == self.answer
     }
 }
@@ -197,12 +263,22 @@ fn compartment(ledger: &[u8], bank: usize) -> &[u8] {
     &ledger[bank * COMPARTMENT_SIZE..][..COMPARTMENT_SIZE]
 }
 
-/// Demand 3: each bank's answers and compartment are those of a lone run of its own records, the
-/// records taken bank after bank leave the same ledger, and each call comes to what it comes to
-/// on an empty ledger, never to refusal 4. One case for each bank of a list, and one for each of
-/// the other two.
+/// Demand 3: each bank's answers and compartment are those of a lone run of its own records, singly
+/// and without earlier answers; the records taken bank after bank leave the same ledger, bookings
+/// as bookings; and each call comes to what it comes to on an empty ledger, never to refusal 4.
+/// One case for each bank of a list, and one for each of the other two.
 pub fn demand_three(check: &mut Check, rng: &mut Rng, count: usize) {
-    check.section("demand 3 over lists of calls and files");
+    check.section("demand 3 over calls, files and bookings");
+    isolated(check, rng, count, any_call);
+}
+
+/// The same over bookings alone, those that are refused among them.
+pub fn demand_three_bookings(check: &mut Check, rng: &mut Rng, count: usize) {
+    check.section("demand 3 over bookings");
+    isolated(check, rng, count, booking_call);
+}
+
+fn isolated(check: &mut Check, rng: &mut Rng, count: usize, draw: Draw) {
     for _ in 0..count {
         let any = rng.within(1..=16);
         let banks = *rng.pick(&[16, 16, 16, any]);
@@ -215,10 +291,15 @@ pub fn demand_three(check: &mut Check, rng: &mut Rng, count: usize) {
         let mut calls = Vec::new();
         let mut outcomes_agree = true;
         for _ in 0..length {
-            let call = call(rng, &world, &shared);
+            let call = draw(rng, &world, &shared);
             let (outcome, answers) = proved(&world, &mut shared, &call);
             let (on_empty, _) = proved(&world, &mut vec![0; LEDGER_SIZE], &call);
             outcomes_agree &= outcome == on_empty && outcome != Err(4);
+            match (&call.kind, outcome) {
+                (Kind::Booking(_), Ok(_)) => check.apart(Apart::ListBooked),
+                (Kind::Booking(_), Err(29)) => check.apart(Apart::ListRefused),
+                _ => {}
+            }
             calls.push((call, answers));
         }
         check.case(outcomes_agree, || {
@@ -229,10 +310,15 @@ pub fn demand_three(check: &mut Check, rng: &mut Rng, count: usize) {
         let judged: Vec<Judged> = calls
             .iter()
             .flat_map(|(call, answers)| {
+                let earlier = match &call.kind {
+                    Kind::Booking(earlier) => Some(earlier.as_slice()),
+                    _ => None,
+                };
                 let pairs = call.records.iter().zip(answers);
-                pairs.map(|(record, answer)| Judged {
+                pairs.map(move |(record, answer)| Judged {
                     sender: &call.sender,
                     record,
+                    earlier,
                     answer: *answer,
                 })
             })
@@ -246,8 +332,8 @@ pub fn demand_three(check: &mut Check, rng: &mut Rng, count: usize) {
             lone[own.clone()].copy_from_slice(&start[own.clone()]);
             let mut agrees = true;
             for step in judged.iter().filter(|step| step.bank() == Some(bank)) {
-                agrees &= step.again(&world, &mut lone);
-                in_turn_agrees &= step.again(&world, &mut in_turn);
+                agrees &= step.again(&world, &mut lone, None);
+                in_turn_agrees &= step.again(&world, &mut in_turn, step.earlier);
             }
             agrees &= compartment(&lone, bank) == compartment(&shared, bank);
             lone[own].fill(0);

@@ -2,13 +2,14 @@
 //! leave is compared. Seeds are fixed, so each run makes the same cases.
 //!
 //! The last line printed is `N passed, M failed`; what is counted are groups of up to 1,000 cases,
-//! and one for each place, each refusal, each sight of an error file, each last digit of a sum and
-//! each sight of a zero that has to be hit.
+//! and one for each place, each refusal, each sight of an error file, each last digit of a sum,
+//! each sight of a zero and each of judging and booking apart that has to be hit.
 
 mod compare;
 mod damage;
 mod errors;
 mod files;
+mod judging;
 mod lists;
 mod nulls;
 mod read_back;
@@ -68,6 +69,15 @@ fn main() -> ExitCode {
     nulls::sum(&mut check);
     zeros::every_zero(&mut check, &mut Rng::new(31), 4);
     zeros::stored(&mut check, &mut Rng::new(32), 4_000);
+    judging::in_a_row(&mut check, &mut Rng::new(33), 30_000);
+    judging::every_byte(&mut check);
+    judging::earlier_answers(&mut check, &mut Rng::new(34), 300);
+    judging::failures_left_out(&mut check, &mut Rng::new(35), 5_000);
+    judging::others_answers(&mut check, &mut Rng::new(36), 4_000);
+    judging::morning_and_evening(&mut check, &mut Rng::new(37), 400);
+    judging::order(&mut check, &mut Rng::new(38), 10_000);
+    judging::rooms(&mut check, &mut Rng::new(39), 100);
+    lists::demand_three_bookings(&mut check, &mut Rng::new(40), 500);
 
     let (passed, failed) = check.report();
     println!("{passed} passed, {failed} failed");

@@ -1,5 +1,5 @@
-//! Counting: cases in groups, hits of places, refusals, what error files show, what sums end in and
-//! where zero was seen, and the verdict.
+//! Counting: cases in groups, hits of places, refusals, what error files show, what sums end in,
+//! where zero was seen and what judging and booking apart came to, and the verdict.
 
 use std::fmt::Display;
 use std::time::Instant;
@@ -7,7 +7,8 @@ use std::time::Instant;
 use roselhanda::raw;
 use roselhanda::{code_of, ANSWER_SIZE};
 
-use crate::compare::{ErrorCall, FileCall, Left, Outcome, RecordCall, Sides};
+use crate::compare::{BookCall, ErrorCall, FileCall, Left, Outcome, RecordCall, Sides};
+use crate::judging::{Apart, APART};
 use crate::read_back::{ReadBack, SIGHTS};
 use crate::values::digit_sum;
 
@@ -24,15 +25,24 @@ enum Kind {
     Record,
     File,
     ErrorFile,
+    Judge,
+    Book,
 }
 
-const KINDS: [Kind; 3] = [Kind::Record, Kind::File, Kind::ErrorFile];
+const KINDS: [Kind; 5] = [
+    Kind::Record,
+    Kind::File,
+    Kind::ErrorFile,
+    Kind::Judge,
+    Kind::Book,
+];
 
 impl Kind {
     /// The refusals that the call can give.
     fn refusals(self) -> &'static [usize] {
         match self {
-            Kind::Record => &[2, 3, 4, 12, 13, 14],
+            Kind::Record | Kind::Judge => &[2, 3, 4, 12, 13, 14],
+            Kind::Book => &[2, 3, 4, 12, 13, 14, 29],
             Kind::File => &[1, 2, 3, 4, 5, 6, 7, 8, 9, 10, 11, 12],
             Kind::ErrorFile => &[1, 5, 6, 7, 8, 9, 10, 11, 15, 16, 17, 18, 19],
         }
@@ -40,7 +50,7 @@ impl Kind {
 }
 
 /// One more than the last refusal.
-const NUMBERS: usize = 20;
+const NUMBERS: usize = 30;
 
 /// Where zero was seen, and came to what document 02, Item 4, says of it.
 #[derive(Clone, Copy)]
@@ -70,6 +80,10 @@ struct PlaceHits {
     beside: u64,
     /// Its code was told in an error file.
     told: u64,
+    /// Its bit was put into an earlier answer, and that came to what it has to.
+    put: u64,
+    /// Its bit was taken out of an earlier answer, and that came to what it has to.
+    taken: u64,
 }
 
 #[derive(Default)]
@@ -96,6 +110,7 @@ pub struct Check {
     /// By the last digit of a sum.
     sums: [u64; 10],
     zeros: [u64; ZEROS.len()],
+    apart: [u64; APART.len()],
 }
 
 /// Whether a place was judged in an answer with this set of failures.
@@ -130,6 +145,7 @@ impl Check {
             sights: [0; SIGHTS.len()],
             sums: [0; 10],
             zeros: [0; ZEROS.len()],
+            apart: [0; APART.len()],
         }
     }
 
@@ -193,15 +209,38 @@ impl Check {
         label: &str,
     ) -> &Left {
         let verdict = self.sides.record(call);
-        self.made(Kind::Record, verdict, due, || {
+        self.made(Kind::Record, verdict, due, || shown_call(label, call))
+    }
+
+    /// One case: judging alone of both sides. Gives what the proved side left.
+    pub fn judge(&mut self, call: &RecordCall) -> &Left {
+        self.judge_expecting(call, None, "")
+    }
+
+    /// One case: judging alone of both sides, with the outcome that the case was made for.
+    pub fn judge_expecting(
+        &mut self,
+        call: &RecordCall,
+        due: Option<Outcome>,
+        label: &str,
+    ) -> &Left {
+        let verdict = self.sides.judge(call);
+        self.made(Kind::Judge, verdict, due, || shown_call(label, call))
+    }
+
+    /// One case: a booking of both sides. Gives what the proved side left.
+    pub fn book(&mut self, call: &BookCall) -> &Left {
+        self.book_expecting(call, None, "")
+    }
+
+    /// One case: a booking of both sides, with the outcome that the case was made for.
+    pub fn book_expecting(&mut self, call: &BookCall, due: Option<Outcome>, label: &str) -> &Left {
+        let verdict = self.sides.book(call);
+        self.made(Kind::Book, verdict, due, || {
             format!(
-                "{label}\n  reporters {}\n  currencies {}\n  sender {}\n  record {}\n  room {}\n  ledger {}",
-                shown(call.reporters),
-                shown(call.currencies),
-                shown(call.sender),
-                shown(call.record),
-                call.room,
-                shown_ledger(call.ledger),
+                "{}\n  earlier answer {:02x?}",
+                shown_call(label, &call.call),
+                call.earlier
             )
         })
     }
@@ -284,6 +323,29 @@ impl Check {
         self.zeros[seen as usize] += 1;
     }
 
+    /// Counts what judging and booking apart came to.
+    pub fn apart(&mut self, seen: Apart) {
+        self.apart[seen as usize] += 1;
+    }
+
+    /// Counts a place whose bit was turned in an earlier answer with this set.
+    pub fn turned(&mut self, set: u64, place: usize) {
+        let hits = &mut self.places[place];
+        if set >> place & 1 == 1 {
+            hits.taken += 1;
+        } else {
+            hits.put += 1;
+        }
+    }
+
+    /// The place of a set that was taken out of earlier answers least often, and not often enough.
+    pub fn least_taken(&self, set: u64) -> Option<usize> {
+        (0..64)
+            .filter(|place| set >> place & 1 == 1)
+            .filter(|&place| self.places[place].taken < 2 * FEWEST_HITS)
+            .min_by_key(|&place| self.places[place].taken)
+    }
+
     /// Counts what an error file shows.
     fn saw(&mut self, file: &ReadBack) {
         for (hits, (_, count)) in self.sights.iter_mut().zip(SIGHTS) {
@@ -311,7 +373,7 @@ impl Check {
             _ => Ok(()),
         });
         match (outcome, kind) {
-            (Ok(_), Kind::Record | Kind::File) => {
+            (Ok(_), Kind::Record | Kind::File | Kind::Judge | Kind::Book) => {
                 count_answers(&mut self.places, &self.sides.left.written)
             }
             (Ok(_), Kind::ErrorFile) => {}
@@ -345,25 +407,28 @@ impl Check {
             "\n{} cases in all; each row below needs {FEWEST_HITS} hits",
             self.cases
         );
-        println!("\nplace  code    failed      held    beside      told");
+        println!("\nplace  code    failed      held    beside      told       put     taken");
         for place in 0..64 {
             let hits = self.places[usize::from(place)];
-            let ok = [hits.failed, hits.beside, hits.told]
+            let ok = [hits.failed, hits.beside, hits.told, hits.put, hits.taken]
                 .iter()
                 .all(|&hits| hits >= FEWEST_HITS);
             println!(
-                "{place:>5}  {:04} {:>9} {:>9} {:>9} {:>9}{}",
+                "{place:>5}  {:04} {:>9} {:>9} {:>9} {:>9} {:>9} {:>9}{}",
                 code_of(place).expect("a place"),
                 hits.failed,
                 hits.held,
                 hits.beside,
                 hits.told,
+                hits.put,
+                hits.taken,
                 if ok { "" } else { "  TOO FEW" }
             );
             self.count(ok);
         }
-        println!("\nrefusal    record      file     error");
-        for number in 1..NUMBERS {
+        println!("\nrefusal    record      file     error     judge      book");
+        let is_given = |number: &usize| KINDS.iter().any(|kind| kind.refusals().contains(number));
+        for number in (1..NUMBERS).filter(is_given) {
             let mut ok = true;
             let columns = KINDS.map(|kind| {
                 let hits = self.refusals[kind as usize][number];
@@ -375,9 +440,9 @@ impl Check {
                     "-".to_string()
                 }
             });
-            let [record, file, error] = columns;
+            let [record, file, error, judge, book] = columns;
             println!(
-                "{number:>7} {record:>9} {file:>9} {error:>9}{}",
+                "{number:>7} {record:>9} {file:>9} {error:>9} {judge:>9} {book:>9}{}",
                 if ok { "" } else { "  TOO FEW OR NONE DUE" }
             );
             self.count(ok);
@@ -388,6 +453,8 @@ impl Check {
         self.table("sums that end in", sums);
         let zeros = ZEROS.into_iter().zip(self.zeros);
         self.table("zero", zeros);
+        let apart = APART.into_iter().zip(self.apart);
+        self.table("judged, and booked", apart);
         println!();
         (self.passed, self.failed)
     }
@@ -429,6 +496,18 @@ fn count_answers(places: &mut [PlaceHits; 64], answers: &[u8]) {
 /// The set of failed checks of an answer record.
 pub fn set_of(answer: &[u8]) -> u64 {
     u64::from_le_bytes(*answer.first_chunk().expect("an answer has 16 bytes"))
+}
+
+fn shown_call(label: &str, call: &RecordCall) -> String {
+    format!(
+        "{label}\n  reporters {}\n  currencies {}\n  sender {}\n  record {}\n  room {}\n  ledger {}",
+        shown(call.reporters),
+        shown(call.currencies),
+        shown(call.sender),
+        shown(call.record),
+        call.room,
+        shown_ledger(call.ledger),
+    )
 }
 
 fn shown_ledger(ledger: &[u8]) -> String {
