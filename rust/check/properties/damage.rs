@@ -511,8 +511,8 @@ const HARMLESS: &[(&str, Change)] = &[
     }),
 ];
 
-/// Both calls on what is lent, with the outcome that the damage asks for.
-fn both_calls(check: &mut Check, rng: &mut Rng, lent: &Lent, due: Option<Outcome>, label: &str) {
+/// All calls on what is lent, with the outcome that the damage asks for.
+fn all_calls(check: &mut Check, rng: &mut Rng, lent: &Lent, due: Option<Outcome>, label: &str) {
     let bank = lent.world.random_bank(rng);
     let setting = Setting::without_rows(&lent.world, bank);
     let record = valid(rng, &setting).to_bytes();
@@ -531,6 +531,12 @@ fn both_calls(check: &mut Check, rng: &mut Rng, lent: &Lent, due: Option<Outcome
         room,
     };
     check.record_expecting(&call, due, label);
+    let mut earlier = check.judge_expecting(&call, due, label).written.clone();
+    if earlier.is_empty() {
+        let length = *rng.pick(&[0, 15, 16]);
+        earlier = rng.bytes(length);
+    }
+    check.book_expecting(&call.booking(&earlier), due, label);
     let file = Parts::new(sender, b"W", &[record]).to_bytes();
     let call = FileCall {
         file: &file,
@@ -556,7 +562,7 @@ pub fn rules(check: &mut Check, rng: &mut Rng, rounds: usize) {
             for (label, change) in changes {
                 let mut lent = Lent::random(rng);
                 change(rng, &mut lent);
-                both_calls(check, rng, &lent, Some(due), label);
+                all_calls(check, rng, &lent, Some(due), label);
             }
         }
     }
@@ -574,7 +580,7 @@ pub fn precedence(check: &mut Check, rng: &mut Rng, cases: usize) {
                 due = Err(number);
             }
         }
-        both_calls(check, rng, &lent, Some(due), "several damaged");
+        all_calls(check, rng, &lent, Some(due), "several damaged");
     }
 }
 
@@ -607,14 +613,17 @@ pub fn every_byte(check: &mut Check, rng: &mut Rng) {
                 2 => ledger[at] = byte,
                 _ => lent[which][at] = byte,
             }
-            check.record(&RecordCall {
+            let call = RecordCall {
                 reporters: &lent[0],
                 currencies: &lent[1],
                 ledger: &ledger,
                 sender: b"MBONE",
                 record,
                 room: 16,
-            });
+            };
+            check.record(&call);
+            check.judge(&call);
+            check.book(&call.booking(&[0; 16]));
         }
     };
     for at in 0..world.reporters.len() {
@@ -665,6 +674,6 @@ pub fn random_bytes(check: &mut Check, rng: &mut Rng, cases: usize) {
                 }
             }
         }
-        both_calls(check, rng, &lent, None, "random bytes");
+        all_calls(check, rng, &lent, None, "random bytes");
     }
 }

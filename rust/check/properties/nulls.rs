@@ -42,6 +42,38 @@ extern "C" {
         records: *mut u64,
     ) -> u64;
 
+    fn roselhanda_judge(
+        reporters: *const u8,
+        reporters_length: u64,
+        currencies: *const u8,
+        currencies_length: u64,
+        ledger: *const u8,
+        ledger_length: u64,
+        sender: *const u8,
+        sender_length: u64,
+        record: *const u8,
+        record_length: u64,
+        answer: *mut u8,
+        answer_length: u64,
+    ) -> u64;
+
+    fn roselhanda_book(
+        reporters: *const u8,
+        reporters_length: u64,
+        currencies: *const u8,
+        currencies_length: u64,
+        ledger: *mut u8,
+        ledger_length: u64,
+        sender: *const u8,
+        sender_length: u64,
+        record: *const u8,
+        record_length: u64,
+        earlier: *const u8,
+        earlier_length: u64,
+        answer: *mut u8,
+        answer_length: u64,
+    ) -> u64;
+
     fn roselhanda_field(record: *const u8, record_length: u64, n: u64, length: *mut u64) -> u64;
 
     fn roselhanda_error_file(
@@ -65,6 +97,15 @@ extern "C" {
     fn roselhanda_isin_sum(text: *const u8, text_length: u64) -> u64;
 }
 
+/// The calls that are lent tables and a ledger.
+#[derive(Clone, Copy, PartialEq, Eq)]
+enum Call {
+    Record,
+    File,
+    Judge,
+    Book,
+}
+
 /// What a call is lent; a slice that is empty is lent as a null pointer.
 #[derive(Clone, PartialEq, Eq)]
 struct Lent {
@@ -72,9 +113,10 @@ struct Lent {
     currencies: Vec<u8>,
     ledger: Vec<u8>,
     sender: Vec<u8>,
-    /// The record of a single call, or the file.
+    /// The record, or the file.
     text: Vec<u8>,
     answers: Vec<u8>,
+    earlier: Vec<u8>,
 }
 
 fn read(bytes: &[u8]) -> (*const u8, u64) {
@@ -96,34 +138,21 @@ fn write(bytes: &mut [u8]) -> (*mut u8, u64) {
 }
 
 impl Lent {
-    /// The single-record call or the file call, by pointers.
-    fn call(&mut self, is_file: bool) -> Outcome {
+    /// The call by pointers.
+    fn call(&mut self, call: Call) -> Outcome {
         let (reporters, reporters_length) = read(&self.reporters);
         let (currencies, currencies_length) = read(&self.currencies);
         let (ledger, ledger_length) = write(&mut self.ledger);
         let (sender, sender_length) = read(&self.sender);
         let (text, text_length) = read(&self.text);
         let (answers, answers_length) = write(&mut self.answers);
+        let (earlier, earlier_length) = read(&self.earlier);
         let mut count = 1;
         // SAFETY: each pointer is that of a vector of the length beside it, or null with length 0;
         // all are distinct and live through the call, and the lent word is a local.
         let reply = unsafe {
-            if is_file {
-                roselhanda_file(
-                    text,
-                    text_length,
-                    reporters,
-                    reporters_length,
-                    currencies,
-                    currencies_length,
-                    ledger,
-                    ledger_length,
-                    answers,
-                    answers_length,
-                    &mut count,
-                )
-            } else {
-                roselhanda_record(
+            match call {
+                Call::Record => roselhanda_record(
                     reporters,
                     reporters_length,
                     currencies,
@@ -136,7 +165,50 @@ impl Lent {
                     text_length,
                     answers,
                     answers_length,
-                )
+                ),
+                Call::File => roselhanda_file(
+                    text,
+                    text_length,
+                    reporters,
+                    reporters_length,
+                    currencies,
+                    currencies_length,
+                    ledger,
+                    ledger_length,
+                    answers,
+                    answers_length,
+                    &mut count,
+                ),
+                Call::Judge => roselhanda_judge(
+                    reporters,
+                    reporters_length,
+                    currencies,
+                    currencies_length,
+                    ledger,
+                    ledger_length,
+                    sender,
+                    sender_length,
+                    text,
+                    text_length,
+                    answers,
+                    answers_length,
+                ),
+                Call::Book => roselhanda_book(
+                    reporters,
+                    reporters_length,
+                    currencies,
+                    currencies_length,
+                    ledger,
+                    ledger_length,
+                    sender,
+                    sender_length,
+                    text,
+                    text_length,
+                    earlier,
+                    earlier_length,
+                    answers,
+                    answers_length,
+                ),
             }
         };
         if reply == 0 {
@@ -147,25 +219,28 @@ impl Lent {
     }
 
     /// The same call of the twin.
-    fn twin_call(&mut self, is_file: bool) -> Outcome {
-        let outcome = if is_file {
-            twin::book_file(
-                &self.text,
-                &self.reporters,
-                &self.currencies,
-                &mut self.ledger,
-                &mut self.answers,
+    fn twin_call(&mut self, call: Call) -> Outcome {
+        let Lent {
+            reporters,
+            currencies,
+            ledger,
+            sender,
+            text,
+            answers,
+            earlier,
+        } = self;
+        let outcome = match call {
+            Call::Record => {
+                twin::book_record(reporters, currencies, ledger, sender, text, answers).map(|()| 1)
+            }
+            Call::File => twin::book_file(text, reporters, currencies, ledger, answers),
+            Call::Judge => {
+                twin::judge_record(reporters, currencies, ledger, sender, text, answers).map(|()| 1)
+            }
+            Call::Book => twin::book_judged(
+                reporters, currencies, ledger, sender, text, earlier, answers,
             )
-        } else {
-            twin::book_record(
-                &self.reporters,
-                &self.currencies,
-                &mut self.ledger,
-                &self.sender,
-                &self.text,
-                &mut self.answers,
-            )
-            .map(|()| 1)
+            .map(|()| 1),
         };
         outcome
             .map(|count| count as u64)
@@ -181,6 +256,7 @@ impl Lent {
             &mut self.sender,
             &mut self.text,
             &mut self.answers,
+            &mut self.earlier,
         ];
         for (k, slice) in slices.into_iter().enumerate() {
             if set >> k & 1 == 1 {
@@ -201,22 +277,41 @@ pub fn null_pointers(check: &mut Check, rng: &mut Rng, rounds: usize) {
         let sender = world.banks[bank].mailbox.clone();
         let file = Parts::new(&sender, b"W", slice::from_ref(&record)).to_bytes();
         let without_records = Parts::new(&sender, b"W", &[]).to_bytes();
-        for (text, is_file) in [(record, false), (file, true), (without_records, true)] {
+        let mut answer = [0; ANSWER_SIZE];
+        twin::judge_record(
+            &world.reporters,
+            &world.currencies,
+            &ledger,
+            &sender,
+            &record,
+            &mut answer,
+        )
+        .expect("nothing is refused");
+        for (text, call) in [
+            (&record, Call::Record),
+            (&file, Call::File),
+            (&without_records, Call::File),
+            (&record, Call::Judge),
+            (&record, Call::Book),
+        ] {
             let whole = Lent {
                 reporters: world.reporters.clone(),
                 currencies: world.currencies.clone(),
                 ledger: ledger.clone(),
                 sender: sender.clone(),
-                text,
+                text: text.clone(),
                 answers: vec![0xa5; ANSWER_SIZE + 3],
+                earlier: answer.to_vec(),
             };
-            for set in 0..64 {
+            // The earlier answer is lent to one of the calls only.
+            let sets = if call == Call::Book { 128 } else { 64 };
+            for set in 0..sets {
                 let mut lent = whole.clone();
                 lent.empty(set);
                 let mut twin = lent.clone();
-                let (proved, due) = (lent.call(is_file), twin.twin_call(is_file));
+                let (proved, due) = (lent.call(call), twin.twin_call(call));
                 check.case(proved == due && lent == twin, || {
-                    format!("slices {set:06b} null: {proved:?}, and {due:?} of the twin")
+                    format!("slices {set:07b} null: {proved:?}, and {due:?} of the twin")
                 });
             }
         }
