@@ -1,4 +1,4 @@
--- What is printed of a file call (document 01, "Worked inputs"), and of an error file.
+-- What is printed of a file call (document 01, "Worked inputs"), of an error file, and of records that are judged without booking.
 -- Assumes nothing.
 use Prim.Native.Nat.{ℕ, zero, suc, _*_}
 use mathlib.Core.Bool.{Bool, cond}
@@ -49,3 +49,11 @@ refusedText n = bytes "refused " ++ numberText n ++ lineFeed
 -- of an error file that is written (document 02, Item 1): its length
 unfoldable pub writtenText : ℕ → List ℕ
 writtenText n = bytes "written " ++ numberText n ++ lineFeed
+
+-- of records that are judged without booking (document 02, Item 5): a record that is refused, by its number and that of its refusal
+unfoldable pub refusedLineText : ℕ → ℕ → List ℕ
+refusedLineText number refusal = numberText number ++ bytes " refused " ++ numberText refusal ++ lineFeed
+
+-- and, last, how many of them would be booked
+unfoldable pub wouldBookText : ℕ → List ℕ
+wouldBookText count = bytes "would book " ++ numberText count ++ lineFeed

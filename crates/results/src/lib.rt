@@ -1,7 +1,8 @@
-// The lines that tell of a file call, its refusal or what became of each record, and of an error file.
+// The lines that tell of a file call, its refusal or what became of each record, of an error file, and of records that are judged without booking.
 ghost use mathlib.Core.Path.{_≡_};
 ghost use Rattle.page.specs.Page.{page, appended};
 ghost use Rattle.results.specs.Results.{rowText, lineText, linesText, bookedCount, acceptedText, refusedText, writtenText};
+ghost use Rattle.results.specs.Results.{refusedLineText, wouldBookText};
 use answer::Answer;
 use answer::BOOKED;
 use answer::NO_REPORTER;
@@ -20,7 +21,7 @@ fn append_row(out: &mut [u8], at: usize, row: u8) -> usize
 }
 
 // Writes the line of a record: its number, its first code, its count of failures, its reporter's row.
-fn append_line(out: &mut [u8], at: usize, number: u64, a: Answer) -> usize
+pub fn append_line(out: &mut [u8], at: usize, number: u64, a: Answer) -> usize
     ensures { λ r. ⌜ page (now (out .exit)) r ≡ appended (page (now (out .entry)) at) (lineText number a) ⌝ }
 {
     let failed = a.failed;
@@ -93,5 +94,24 @@ pub fn written(out: &mut [u8], n: u64) -> usize
 {
     let mut end = append(out, 0, b"written ");
     end = append_number(out, end, n);
+    append(out, end, b"\n")
+}
+
+// Writes the line of a record that is refused: its number, and the number of its refusal.
+pub fn append_refused_line(out: &mut [u8], at: usize, number: u64, refusal: u8) -> usize
+    ensures { λ r. ⌜ page (now (out .exit)) r ≡ appended (page (now (out .entry)) at) (refusedLineText number refusal) ⌝ }
+{
+    let mut end = append_number(out, at, number);
+    end = append(out, end, b" refused ");
+    end = append_number(out, end, refusal as u64);
+    append(out, end, b"\n")
+}
+
+// Writes what is printed last of records that are judged without booking: how many would be booked.
+pub fn would_book(out: &mut [u8], count: u64) -> usize
+    ensures { λ r. ⌜ page (now (out .exit)) r ≡ appended (page (now (out .entry)) 0) (wouldBookText count) ⌝ }
+{
+    let mut end = append(out, 0, b"would book ");
+    end = append_number(out, end, count);
     append(out, end, b"\n")
 }
