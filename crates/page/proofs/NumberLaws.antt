@@ -11,7 +11,7 @@ use borrow.Author.Tests.{lt-ltb, le-ltb}
 use lib.Dec.{ltb, lit<}
 use lib.ListN.{length, length-append}
 use Rattle.frame.specs.Every.{least}
-use Rattle.frame.proofs.LeastLaws.{least-is, least-none, least-below}
+use Rattle.frame.proofs.LeastLaws.{least-le, least-is, least-none, least-below}
 use Rattle.io.specs.Digits.{digits, Fewest}
 use Rattle.page.specs.Number.{digitCount, numberText, codeText}
 
@@ -45,6 +45,10 @@ digits-length (suc k) n = length-append (digits 10 k (n / 10)) _ ∙ rw (digits-
 pub code-length : (n : ℕ) → length (codeText n) ≡ 4
 unfolding codeText
 code-length n = digits-length 4 n
+
+pub number-most : (n : ℕ) → length (numberText n) ≤ 20
+unfolding numberText digitCount
+number-most n = rw (digits-length (digitCount n) n) (omega (arith, least-le 19 (λ k. ltb n (10 ^ suc k))))
 
 pub number-short : (n : ℕ) → n < 10000 → length (numberText n) ≤ 4
 unfolding numberText digitCount

@@ -1,4 +1,5 @@
--- The room that the lines of a file call take: a page of 20,505 bytes holds those of 1,024 records, and none of them is cut.
+-- The room that lines take: a page of 20,505 bytes holds those of a file call with 1,024 records, one of 68 bytes each line of a record that is
+-- judged without booking, whatever its number; none of them is cut.
 -- Assumes nothing.
 use Prim.Native.Nat.{ℕ, zero, suc, _*_, _≤_, _<_}
 use native.Mathlib.Nat.{zero-add}
@@ -17,8 +18,9 @@ use Rattle.answer.proofs.SizeLaws.{areBytes, answer-small}
 use Rattle.page.specs.Page.{page, appended}
 use Rattle.page.specs.Number.{numberText}
 use Rattle.page.proofs.PageLaws.{appended-room}
-use Rattle.page.proofs.NumberLaws.{number-short, code-length}
+use Rattle.page.proofs.NumberLaws.{number-most, number-short, code-length}
 use Rattle.results.specs.Results.{rowText, lineText, linesText, isBooked, bookedCount, acceptedText}
+use Rattle.results.specs.Results.{refusedLineText, wouldBookText}
 
 -- a row takes four bytes, a line twenty
 row-short : (row : ℕ) → row < 256 → length (rowText row) ≤ 4
@@ -63,3 +65,29 @@ accepted-stands n answers s h f room =
     let t : List ℕ = acceptedText n answers in
     appended-room s 0 t (omega (arith, accepted-short n answers h f))
     ∙ ap (λ (m : ℕ). page (t ++ drop m s) m) (zero-add (length t))
+
+-- the lines of records that are judged without booking: 68 bytes hold a record's, 50 a refused one's, 32 the last
+row-most : (row : ℕ) → length (rowText row) ≤ 20
+unfolding rowText
+row-most row = go (eqb row 255)
+  where
+    go : (b : Bool) → length (cond b (45 ∷ []) (numberText row)) ≤ 20
+    go true = omega arith
+    go false = number-most row
+
+pub line-most : (number : ℕ) (a : Answer) → length (lineText number a) ≤ 68
+unfolding lineText
+line-most number a =
+    let one = number-most number in
+    let two = number-most (failureCount (a .failed)) in
+    let three = row-most (a .row) in
+    let four = code-length (a .code) in
+    simp length-append (omega (arith, one, two, three, four))
+
+pub refused-line-most : (number refusal : ℕ) → length (refusedLineText number refusal) ≤ 50
+unfolding refusedLineText
+refused-line-most number refusal = simp length-append (omega (arith, number-most number, number-most refusal))
+
+pub would-book-most : (count : ℕ) → length (wouldBookText count) ≤ 32
+unfolding wouldBookText
+would-book-most count = simp length-append (omega (arith, number-most count))

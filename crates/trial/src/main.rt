@@ -18,11 +18,11 @@ const CURRENCIES_ROOM: usize = 1537;
 
 const LEDGER_ROOM: usize = 32769;
 
-// Room for a record with two bytes more: what is left of a longer line is too long without the CR at its end, too, and so refused as all of it is.
+// Room for a record and two bytes more: of a longer line so many are kept, which are too many without a CR at their end, too, and so it is refused.
 const LINE_ROOM: usize = 32770;
 
-// Room for each line that is printed.
-const PAGE_ROOM: usize = 64;
+// Room for each line that is printed, whatever its numbers (`line-most`, crates/results/proofs/RoomLaws.antt): none is cut.
+const PAGE_ROOM: usize = 68;
 
 // A proved loop has to end, and nothing says that standard input does: no run makes so many reads.
 const MOST_READS: u64 = 100000000000000;
