@@ -47,8 +47,9 @@ use Rattle.answer.specs.declared.Answer.{Answer}
 use Rattle.answer.specs.Answer.{answerBytes}
 use Rattle.calls.specs.Call.{Call, called, recordLimit, noReporter, noRow, rowOf, failedOf, recordForm, callFlaw, refusalOf, checkedOf, answerOf}
 use Rattle.calls.specs.Call.{formalIn, formalBy, formalOf, bookedAs, foundRows, stepFailures, stepAnswer, stepCompartment}
-use Rattle.calls.specs.CallSteps.{Judged}
+use Rattle.calls.specs.CallSteps.{Judged, ForeseenBy}
 use Rattle.calls.specs.declared.judging.Formal.{Formal}
+use Rattle.calls.specs.declared.judging.Foreseen.{Foreseen}
 use Rattle.calls.specs.Rules.{rules}
 
 -- What code finds that tests the tables and the ledger which it is lent, ns being the refusals behind these.
@@ -249,37 +250,40 @@ module _ (formal : Formal) (s c : List ℕ) where
   unfolding stepAnswer stepCompartment answerOf bookingOf
   step-booked n h g k = k ∙ rw (h, g, n) refl
 
--- the same on a ledger that lends the compartment of the record's row
-module _ (formal : Formal) (s l : List ℕ) where
-  abbrev c : List ℕ
-  c = compartment (formal .row) l
-
-  -- what is lent of a ledger of its length, for a bank's row
+-- the compartment of a row, as a ledger lends it
+module _ (row : ℕ) (l : List ℕ) (inside : row * compartmentSize + compartmentSize ≤ length l) where
   abbrev start : ℕ
-  start = formal .row * compartmentSize
+  start = row * compartmentSize
 
   abbrev lentPart : List ℕ
   lentPart = take (start + compartmentSize - start) (drop start l)
 
   -- what 61 to 63 find there, by the index
-  pub rows-found : {found : Booking} {f16 f39 : List ℕ} → start + compartmentSize ≤ length l → f16 ≡ fieldOf s 16 → f39 ≡ fieldOf s 39
-      → found ≡ bookingOf lentPart f16 f39 → found ≡ foundRows formal s c
-  rows-found inside p q e = e ∙ (λ i. bookingOf (part-lent compartmentSize (formal .row) l inside .0 i) (p i) (q i))
+  pub rows-found : (formal : Formal) (s : List ℕ) {found : Booking} {f16 f39 : List ℕ} → f16 ≡ fieldOf s 16 → f39 ≡ fieldOf s 39
+      → found ≡ bookingOf lentPart f16 f39 → found ≡ foundRows formal s (compartment row l)
+  rows-found formal s p q e = e ∙ (λ i. bookingOf (part-lent compartmentSize row l inside .0 i) (p i) (q i))
 
-  -- an answer with a failure leaves the ledger; one without has its compartment booked, and put back in its place
-  pub settled-failed : {a : Answer} → a ≡ stepAnswer formal s c → isEmpty (a .failed) ≡ false → l ≡ put compartmentSize (formal .row) (stepCompartment formal s c) l
-  settled-failed e n =
-      let some : isEmpty (stepFailures formal s c) ≡ false = ap isEmpty (sym (answer-failures formal s c e)) ∙ n in
-      sym (ap (λ (d : List ℕ). put compartmentSize (formal .row) d l) (step-failed formal s c some) ∙ put-own compartmentSize (formal .row) l)
+  -- and what is booked there comes back into its place
+  pub rows-booked : (free named : ℕ) (s : List ℕ) {d : List ℕ} → d ≡ bookedAs free named s lentPart
+      → take start l ++ (d ++ drop (start + compartmentSize - start) (drop start l)) ≡ put compartmentSize row (bookedAs free named s (compartment row l)) l
+  rows-booked free named s {d} e =
+      put-lent compartmentSize row d l
+      ∙ ap (λ (w : List ℕ). put compartmentSize row w l) (e ∙ ap (bookedAs free named s) (part-lent compartmentSize row l inside .0))
 
-  pub settled-booked : {a : Answer} {named : ℕ} {d : List ℕ} → start + compartmentSize ≤ length l → a ≡ stepAnswer formal s c → isEmpty (a .failed) ≡ true
-      → (isEmpty (stepFailures formal s c) ≡ true → named ≡ namedRow c (fieldOf s 16)) → d ≡ bookedAs (a .booked) named s lentPart
-      → take start l ++ (d ++ drop (start + compartmentSize - start) (drop start l)) ≡ put compartmentSize (formal .row) (stepCompartment formal s c) l
-  settled-booked {a} {named} {d} inside e n g k =
-      let none : isEmpty (stepFailures formal s c) ≡ true = ap isEmpty (sym (answer-failures formal s c e)) ∙ n in
-      let there = k ∙ ap (bookedAs (a .booked) named s) (part-lent compartmentSize (formal .row) l inside .0) in
-      put-lent compartmentSize (formal .row) d l
-      ∙ ap (λ (w : List ℕ). put compartmentSize (formal .row) w l) (step-booked formal s c none e (g none) there)
+-- what code has judged whole that went by its call's places 0 to 60
+pub foreseen-by : (tables : Tables) (call : Call) (l : List ℕ) {formal : Formal} {f : Foreseen} → formal ≡ formalOf tables call
+    → let c = compartment (formal .row) l in
+    f .answer ≡ stepAnswer formal (call .«record») c
+    → (isEmpty (stepFailures formal (call .«record») c) ≡ true → f .named ≡ namedRow c (fieldOf (call .«record») 16)) → ForeseenBy tables call l f
+foreseen-by tables call l {formal} {f} e a n = go e a n
+  where
+    go : {g : Formal} → g ≡ formalOf tables call → f .answer ≡ stepAnswer g (call .«record») (compartment (g .row) l)
+        → (isEmpty (stepFailures g (call .«record») (compartment (g .row) l)) ≡ true
+        → f .named ≡ namedRow (compartment (g .row) l) (fieldOf (call .«record») 16)) → ForeseenBy tables call l f
+    go q a n =
+        let told : f .answer ≡ stepAnswer (formalOf tables call) (call .«record») (compartment (formalOf tables call .row) l) = rw q at a in
+        let failures = answer-failures (formalOf tables call) (call .«record») _ told in
+        record { answered = told; names = λ z. (rw q at n) (ap isEmpty (sym failures) ∙ z) }
 
 -- The two outcomes of a call, on the ledger that it is lent.
 module _ (tables : Tables) (call : Call) (l : List ℕ) where
@@ -327,9 +331,39 @@ module _ (tables : Tables) (call : Call) (l : List ℕ) where
           ∙ ap (λ (k : Checked). record { reply = R.accepted (answerBytes (answerOf (failedOf k) noReporter noRow s)); store = l }) (sym q)
           ∙ sym (single-stranger (rules tables) call l e none)
 
-  -- the outcome that code leaves which has settled places 0 to 60
-  pub settled-call : {formal : Formal} {a : Answer} {m : List ℕ} → refusalOf tables call (ledgerFlaw l) ≡ 0 → formal ≡ formalOf tables call
-      → a ≡ stepAnswer formal (call .«record») (compartment (formal .row) l)
-      → m ≡ put compartmentSize (formal .row) (stepCompartment formal (call .«record») (compartment (formal .row) l)) l
-      → record { reply = R.accepted (answerBytes a); store = m } ≡ I.single (rules tables) call l
-  settled-call e f h k = rw (h, k, f) (call-settled e)
+  -- what is judged of it whole: its row is a bank's where it has no failure; and the outcome that code leaves which goes by it
+  module _ (free : refusalOf tables call (ledgerFlaw l) ≡ 0) {f : Foreseen} (h : ForeseenBy tables call l f) where
+    abbrev formal : Formal
+    formal = formalOf tables call
+
+    abbrev c : List ℕ
+    c = compartment (formal .row) l
+
+    pub foreseen-failures : f .answer .failed ≡ stepFailures formal (call .«record») c
+    foreseen-failures = answer-failures formal (call .«record») c (h .answered)
+
+    foreseen-row : f .answer .row ≡ formal .row
+    unfolding stepAnswer answerOf
+    foreseen-row = ap (λ (w : Answer). w .row) (h .answered)
+
+    pub foreseen-bank : isEmpty (f .answer .failed) ≡ true → f .answer .row < bankCount
+    foreseen-bank n =
+        rw foreseen-row (passed-bank tables call (accepted tables call (ledgerFlaw l) free .listed)
+        (formal-passed tables call (answer-passed formal (call .«record») c (h .answered) n) .0))
+
+    pub settled-failed : isEmpty (f .answer .failed) ≡ false
+        → record { reply = R.accepted (answerBytes (f .answer)); store = l } ≡ I.single (rules tables) call l
+    settled-failed n =
+        let still = step-failed formal (call .«record») c (ap isEmpty (sym foreseen-failures) ∙ n) in
+        let store = sym (ap (λ (d : List ℕ). put compartmentSize (formal .row) d l) still ∙ put-own compartmentSize (formal .row) l) in
+        (λ i. record { reply = R.accepted (answerBytes (h .answered i)); store = store i }) ∙ call-settled free
+
+    pub settled-booked : {m : List ℕ} → isEmpty (f .answer .failed) ≡ true → let row = f .answer .row in
+        m ≡ put compartmentSize row (bookedAs (f .answer .booked) (f .named) (call .«record») (compartment row l)) l
+        → record { reply = R.accepted (answerBytes (f .answer)); store = m } ≡ I.single (rules tables) call l
+    settled-booked n e =
+        let none = ap isEmpty (sym foreseen-failures) ∙ n in
+        let store = e
+        ∙ ap (λ (row : ℕ). put compartmentSize row (bookedAs (f .answer .booked) (f .named) (call .«record») (compartment row l)) l) foreseen-row
+        ∙ ap (λ (d : List ℕ). put compartmentSize (formal .row) d l) (step-booked formal (call .«record») c none (h .answered) (h .names n) refl) in
+        (λ i. record { reply = R.accepted (answerBytes (h .answered i)); store = store i }) ∙ call-settled free

@@ -11,7 +11,6 @@ use borrow.Author.Tests.{eqb-true, eqb-false, eq-eqb, ne-eqb}
 use lib.Dec.{eqb}
 use lib.ListN.{length}
 use Rattle.frame.specs.Reply.{refused, accepted}
-use Rattle.frame.specs.Parts.{put}
 use Rattle.frame.specs.Isolation.{Outcome, single, replies, storeAfter}
 use Rattle.frame.specs.Earlier.{WithEarlier, earlierRefusal, AllFit}
 use Rattle.frame.proofs.BoolLaws.{and-intro, and-goes}
@@ -25,7 +24,7 @@ use Rattle.failures.proofs.FailureLaws.{same-self}
 use Rattle.fields.specs.Fields.{isWhole, fieldOf}
 use Rattle.tables.specs.Currencies.{isMoney}
 use Rattle.tables.specs.Tables.{Tables}
-use Rattle.ledger.specs.Sound.{compartmentSize, compartment, ledgerFlaw, soundLedger}
+use Rattle.ledger.specs.Sound.{compartment, ledgerFlaw, soundLedger}
 use Rattle.ledger.proofs.LedgerLaws.{flaw-none}
 use Rattle.sender.specs.declared.Checked.{Checked}
 use Rattle.sender.specs.declared.Checked.the-variants.{Passed, Failed}
@@ -35,7 +34,9 @@ use Rattle.answer.specs.declared.Answer.{Answer}
 use Rattle.answer.specs.Answer.{answerSize, answerBytes, answerAt}
 use Rattle.answer.proofs.AnswerLaws.{answer-length, set-read}
 use Rattle.calls.specs.declared.judging.Formal.{Formal}
-use Rattle.calls.specs.Call.{Call, refusalOf, checkedOf, formalOf, answerOf, stepFailures, stepAnswer, stepCompartment}
+use Rattle.calls.specs.declared.judging.Foreseen.{Foreseen}
+use Rattle.calls.specs.CallSteps.{ForeseenBy}
+use Rattle.calls.specs.Call.{Call, refusalOf, checkedOf, formalOf, answerOf, stepFailures, stepAnswer}
 use Rattle.calls.specs.Rules.{rules}
 use Rattle.calls.specs.Judging.{booking, fitsFailures, answerIn, earlierFits, bookingRules, judgedOf, inARow, repliesInARow, ledgerInARow, judgedOn}
 use Rattle.calls.proofs.CallLaws as law
@@ -53,10 +54,10 @@ module _ (earlier : List ℕ) (failed : Failures) where
   unfolding fitsFailures
   fits-not ne = rw (ne-eqb _ _ ne) refl
 
-  pub fits-told : {told : Answer} {set : Failures} {r : Bool} → length earlier ≡ answerSize → told ≡ answerAt 0 earlier → set ≡ beforeBooking (told .failed)
-      → r ≡ sameSet set failed → r ≡ fitsFailures earlier failed
+  pub fits-told : {told : Answer} {set places : Failures} {r : Bool} → length earlier ≡ answerSize → told ≡ answerAt 0 earlier → set ≡ beforeBooking (told .failed)
+      → places ≡ failed → r ≡ sameSet set places → r ≡ fitsFailures earlier failed
   unfolding fitsFailures
-  fits-told long t b e = and-goes _ (eq-eqb _ _ long) (e ∙ rw (b, t))
+  fits-told long t b p e = and-goes _ (eq-eqb _ _ long) (e ∙ rw (b, t, p))
 
 module _ (tables : Tables) where
   -- places 0 to 60 of a call are before the booking
@@ -158,10 +159,11 @@ module _ (tables : Tables) where
         replied : Outcome (List ℕ) (List ℕ) → Outcome (List ℕ) (List ℕ)
         replied o = record { reply = o .reply; store = l }
 
-    pub judged-answered : {formal : Formal} {a : Answer} → refusalOf tables call (ledgerFlaw l) ≡ 0 → formal ≡ formalOf tables call
-        → a ≡ stepAnswer formal (call .«record») (compartment (formal .row) l) → record { reply = accepted (answerBytes a); store = l } ≡ judgedOf tables call l
+    pub judged-answered : {f : Foreseen} → refusalOf tables call (ledgerFlaw l) ≡ 0 → ForeseenBy tables call l f
+        → record { reply = accepted (answerBytes (f .answer)); store = l } ≡ judgedOf tables call l
     unfolding judgedOf
-    judged-answered free f e = ap replied (law.settled-call tables call l free f e refl)
+    judged-answered {f} free h =
+        (λ i. record { reply = accepted (answerBytes (h .answered i)); store = l }) ∙ ap replied (law.call-settled tables call l free)
       where
         replied : Outcome (List ℕ) (List ℕ) → Outcome (List ℕ) (List ℕ)
         replied o = record { reply = o .reply; store = l }
@@ -184,7 +186,7 @@ module _ (tables : Tables) where
         let (free, fits) = first-none _ _ e in
         (free, unless-none _ 29 (omega arith) (first-none _ [] fits .0))
 
-  -- the returns of the booking call, of a record whose places 0 to 60 are judged
+  -- the returns of the booking call, of a record that is judged whole
   module _ (call : Call) (earlier l : List ℕ) {n : ℕ} (e : n ≡ refusalOf tables call (ledgerFlaw l)) where
     abbrev number : ℕ
     number = bookingRules tables .refusal (booking call earlier) (ledgerFlaw l)
@@ -192,22 +194,27 @@ module _ (tables : Tables) where
     pub number-first : n ≢ 0 → n ≡ number
     number-first ne = e ∙ earlier-first (rules tables) (earlierFits tables) 29 (booking call earlier) (ledgerFlaw l) (λ z. ne (e ∙ z))
 
-    module _ (free : n ≡ 0) {formal : Formal} (f : formal ≡ formalOf tables call) {fit : Bool} (g : fit ≡ fitsFailures earlier (formal .failed)) where
-      fit-earlier : fit ≡ earlierFits tables call earlier
-      fit-earlier = g ∙ ap (λ (k : Formal). fitsFailures earlier (k .failed)) f
+    module _ (free : n ≡ 0) {f : Foreseen} (h : ForeseenBy tables call l f) {fit : Bool} (g : fit ≡ fitsFailures earlier (beforeBooking (f .answer .failed)))
+      where
+        foreseen-before : beforeBooking (f .answer .failed) ≡ formalOf tables call .failed
+        unfolding stepFailures
+        foreseen-before =
+            ap beforeBooking (law.foreseen-failures tables call l (sym e ∙ free) h)
+            ∙ failures-before _ (formalOf tables call .failed) (fieldOf (call .«record»)) (formal-before call)
 
-      pub number-unfit : fit ≡ false → 29 ≡ number
-      number-unfit h =
-          earlier-unfit (rules tables) (earlierFits tables) 29 (booking call earlier) (ledgerFlaw l) (sym e ∙ free) (sym fit-earlier ∙ h)
+        fit-earlier : fit ≡ earlierFits tables call earlier
+        fit-earlier = g ∙ ap (fitsFailures earlier) foreseen-before
 
-      pub number-none : fit ≡ true → 0 ≡ number
-      number-none h = earlier-none (rules tables) (earlierFits tables) 29 (booking call earlier) (ledgerFlaw l) (sym e ∙ free) (sym fit-earlier ∙ h)
+        pub number-unfit : fit ≡ false → 29 ≡ number
+        number-unfit k =
+            earlier-unfit (rules tables) (earlierFits tables) 29 (booking call earlier) (ledgerFlaw l) (sym e ∙ free) (sym fit-earlier ∙ k)
 
-      pub booking-settled : {a : Answer} {m : List ℕ} → fit ≡ true → a ≡ stepAnswer formal (call .«record») (compartment (formal .row) l)
-          → m ≡ put compartmentSize (formal .row) (stepCompartment formal (call .«record») (compartment (formal .row) l)) l
-          → record { reply = accepted (answerBytes a); store = m } ≡ single (bookingRules tables) (booking call earlier) l
-      booking-settled h p q =
-          law.settled-call tables call l (sym e ∙ free) f p q ∙ sym (booking-fits (booking call earlier) l (sym fit-earlier ∙ h))
+        pub number-none : fit ≡ true → 0 ≡ number
+        number-none k = earlier-none (rules tables) (earlierFits tables) 29 (booking call earlier) (ledgerFlaw l) (sym e ∙ free) (sym fit-earlier ∙ k)
+
+        pub booking-same : {o : Outcome (List ℕ) (List ℕ)} → fit ≡ true → o ≡ single (rules tables) call l
+            → o ≡ single (bookingRules tables) (booking call earlier) l
+        booking-same k q = q ∙ sym (booking-fits (booking call earlier) l (sym fit-earlier ∙ k))
 
     pub booking-refused : {k : ℕ} → k ≡ number → k ≢ 0 → record { reply = refused k; store = l } ≡ single (bookingRules tables) (booking call earlier) l
     booking-refused {k} q ne = sym (single-refused (bookingRules tables) (booking call earlier) l k (sym q) ne)

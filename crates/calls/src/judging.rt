@@ -4,12 +4,14 @@ ghost use mathlib.Core.Path.{_≡_};
 ghost use Prim.Native.Nat.{_≤_, _<_};
 ghost use lib.ListN.{length};
 ghost use Rattle.failures.specs.Failures.{isEmpty};
-ghost use Rattle.fields.specs.Fields.{fieldOf, fieldBy, isWholeIndex};
+ghost use Rattle.fields.specs.Fields.{fieldOf, fieldBy, stopsOf, isWholeIndex};
 ghost use Rattle.tables.specs.Currencies.{foundMoney};
-ghost use Rattle.ledger.specs.Sound.{compartment};
+ghost use Rattle.tables.specs.Tables.{tablesOf};
+ghost use Rattle.ledger.specs.Sound.{compartment, ledgerFlaw};
 ghost use Rattle.checks.specs.Booking.{namedRow};
 ghost use Rattle.calls.specs.Call.{recordLimit, formalBy, answerOf, stepFailures, stepAnswer};
-ghost use Rattle.calls.specs.CallSteps.{Judged};
+ghost use Rattle.calls.specs.Call.{called, refusalOf};
+ghost use Rattle.calls.specs.CallSteps.{Judged, ForeseenBy};
 use answer::Answer;
 use answer::NO_REPORTER;
 use failures::Failures;
@@ -27,7 +29,7 @@ pub struct Formal {
     pub failed: Failures,
 }
 
-// What a record comes to on the ledger as it is: its answer, and the live row that it names, 64 for none.
+// What a record comes to on the ledger as it is: its answer, and, where it has no failure, the live row that it names, 64 for none.
 pub(crate) struct Foreseen {
     pub answer: Answer,
     pub named: usize,
@@ -80,7 +82,7 @@ fn answer_of(failed: Failures, row: usize, new: usize, record: &[u8]) -> Answer
 
 // The answer to a record whose places 0 to 60 are judged, on the ledger as it is. Where all of them pass, 61 to 63 are lent the compartment of the record's
 // bank, and nothing of the others, to read.
-pub(crate) fn foresee<'a>(
+fn foresee<'a>(
     ledger: &'a [u8],
     formal: Formal,
     record: &'a [u8],
@@ -117,4 +119,22 @@ pub(crate) fn foresee<'a>(
         answer: answer_of(failed, row, found.free, record),
         named: found.named,
     }
+}
+
+// All places of a call that is not refused, judged once, on the ledger as it is: what judging tells, and what booking carries out.
+pub(crate) fn judged<'a>(
+    reporters: &'a [u8],
+    currencies: &'a [u8],
+    ledger: &'a [u8],
+    sender: &'a [u8],
+    record: &'a [u8],
+    stops: &'a [usize; 39],
+) -> Foreseen
+    requires { ⌜ (refusalOf (tablesOf (now reporters) (now currencies)) (called (now sender) (now «record»)) (ledgerFlaw (now ledger)) ≡ 0)
+        × (now stops ≡ stopsOf (now «record»)) ⌝ }
+    ensures { λ r. ⌜ ForeseenBy (tablesOf (now (reporters .entry)) (now (currencies .entry))) (called (now (sender .entry)) (now («record» .entry)))
+        (now (ledger .entry)) r ⌝ }
+{
+    let formal = judge_formal(reporters, currencies, sender, record, stops);
+    foresee(ledger, formal, record, stops)
 }

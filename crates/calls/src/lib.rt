@@ -1,13 +1,15 @@
 // The single-record calls: judging, booking, and the old call, which is the two in a row.
 ghost use mathlib.Core.Path.{_≡_};
+ghost use Prim.Native.Nat.{_<_};
+ghost use lib.ListN.{length};
 ghost use Rattle.frame.specs.Isolation.{single};
 ghost use Rattle.frame.specs.Parts.{put};
 ghost use Rattle.decimal.specs.Decimal.{decimalOf, valueOf};
+ghost use Rattle.failures.specs.Failures.{beforeBooking};
 ghost use Rattle.fields.specs.Fields.{stopsOf};
 ghost use Rattle.tables.specs.Tables.{tablesOf};
-ghost use Rattle.ledger.specs.Sound.{compartmentSize, compartment, ledgerFlaw};
-ghost use Rattle.calls.specs.Call.{recordForm, callFlaw, refusalOf, called, bookedAs, stepAnswer, stepCompartment};
-ghost use Rattle.calls.specs.CallSteps.{Judged};
+ghost use Rattle.ledger.specs.Sound.{bankCount, compartmentSize, ledgerSize, compartment, ledgerFlaw};
+ghost use Rattle.calls.specs.Call.{recordForm, callFlaw, refusalOf, called, bookedAs};
 ghost use Rattle.calls.specs.Rules.{rules};
 ghost use Rattle.calls.specs.Judging.{booking, fitsFailures, bookingRules, judgedOf, inARow};
 ghost use Rattle.calls.specs.Replied.{outcome};
@@ -16,9 +18,8 @@ use answer::Answer;
 use decimal::Decimal;
 use failures::Failures;
 use fields::part;
-use judging::Formal;
-use judging::foresee;
-use judging::judge_formal;
+use judging::Foreseen;
+use judging::judged;
 use ledger::COMPARTMENT_SIZE;
 use text::Class;
 
@@ -106,21 +107,15 @@ fn book_record<'a>(
     booking::book(c, free, part(record, stops, 39), q, side, named);
 }
 
-// Answers a record whose places 0 to 60 are judged, on the ledger as it is, and books it where it has no failure: in the compartment of its bank, and lent
-// nothing of the others.
-fn settle<'a>(ledger: &mut [u8], formal: Formal, record: &'a [u8], stops: &'a [usize; 39]) -> Answer
-    requires { ⌜ Judged formal (now «record») (now stops) (now ledger) ⌝ }
-    ensures { λ r. ⌜ r ≡ stepAnswer formal (now («record» .entry)) (compartment (formal .row) (now (ledger .entry))) ⌝ }
-    ensures { λ r. ⌜ now (ledger .exit) ≡ put compartmentSize (formal .row)
-        (stepCompartment formal (now («record» .entry)) (compartment (formal .row) (now (ledger .entry)))) (now (ledger .entry)) ⌝ }
+// Books a record that is foreseen without a failure, in the compartment of its bank, and lent nothing of the others.
+fn settle<'a>(ledger: &mut [u8], foreseen: Foreseen, record: &'a [u8], stops: &'a [usize; 39])
+    requires { ⌜ (foreseen .answer .row < bankCount) × (length (now ledger) ≡ ledgerSize) × (now stops ≡ stopsOf (now «record»)) ⌝ }
+    ensures { λ r. ⌜ now (ledger .exit) ≡ put compartmentSize (foreseen .answer .row)
+        (bookedAs (foreseen .answer .booked) (foreseen .named) (now («record» .entry)) (compartment (foreseen .answer .row) (now (ledger .entry))))
+        (now (ledger .entry)) ⌝ }
 {
-    let foreseen = foresee(ledger, formal, record, stops);
     let answer = foreseen.answer;
-    let failed = answer.failed;
-    if !failed.is_empty() {
-        return answer;
-    }
-    let a = formal.row * COMPARTMENT_SIZE;
+    let a = answer.row as usize * COMPARTMENT_SIZE;
     let e = a + COMPARTMENT_SIZE;
     book_record(
         &mut ledger[a..e],
@@ -129,7 +124,6 @@ fn settle<'a>(ledger: &mut [u8], formal: Formal, record: &'a [u8], stops: &'a [u
         record,
         stops,
     );
-    answer
 }
 
 // A call that is not refused: judged and booked, the two in a row.
@@ -145,8 +139,14 @@ pub(crate) fn admitted<'a>(
         (called (now (sender .entry)) (now («record» .entry))) (now (ledger .entry)) ⌝ }
 {
     let stops = fields::index(record);
-    let judged = judge_formal(reporters, currencies, sender, record, &stops);
-    settle(ledger, judged, record, &stops)
+    let foreseen = judged(reporters, currencies, ledger, sender, record, &stops);
+    let answer = foreseen.answer;
+    let failed = answer.failed;
+    if !failed.is_empty() {
+        return answer;
+    }
+    settle(ledger, foreseen, record, &stops);
+    answer
 }
 
 // The old single-record call: refusals 2, 3, 4, 13, 14 in that order; then judging and booking in a row. Nothing is judged twice.
@@ -183,22 +183,21 @@ pub fn judge_call<'a>(
         return Replied::Refused(n);
     }
     let stops = fields::index(record);
-    let judged = judge_formal(reporters, currencies, sender, record, &stops);
-    let foreseen = foresee(ledger, judged, record, &stops);
+    let foreseen = judged(reporters, currencies, ledger, sender, record, &stops);
     let answer = foreseen.answer;
     Replied::Answered(answer)
 }
 
-// Whether an earlier answer is sixteen bytes with just these failures at places 0 to 60. Nothing else of it is looked at.
+// Whether an earlier answer is sixteen bytes that have, of places 0 to 60, just those of these failures. Nothing else of it is looked at.
 fn fits(earlier: &[u8], failed: Failures) -> bool
-    ensures { λ r. ⌜ r ≡ fitsFailures (now (earlier .entry)) failed ⌝ }
+    ensures { λ r. ⌜ r ≡ fitsFailures (now (earlier .entry)) (beforeBooking failed) ⌝ }
 {
     if earlier.len() != answer::SIZE {
         return false;
     }
     let told = answer::read(earlier, 0);
     let set = told.failed;
-    set.before_booking().same(failed)
+    set.before_booking().same(failed.before_booking())
 }
 
 // The number by which a booking is refused: 2, 3, 4, 13, 14, 29, the first that applies; 0 for none.
@@ -218,8 +217,9 @@ pub fn booking_refusal<'a>(
         return n;
     }
     let stops = fields::index(record);
-    let judged = judge_formal(reporters, currencies, sender, record, &stops);
-    if fits(earlier, judged.failed) {
+    let foreseen = judged(reporters, currencies, ledger, sender, record, &stops);
+    let answer = foreseen.answer;
+    if fits(earlier, answer.failed) {
         0
     } else {
         UNFIT
@@ -243,9 +243,15 @@ pub fn book_call<'a>(
         return Replied::Refused(n);
     }
     let stops = fields::index(record);
-    let judged = judge_formal(reporters, currencies, sender, record, &stops);
-    if !fits(earlier, judged.failed) {
+    let foreseen = judged(reporters, currencies, ledger, sender, record, &stops);
+    let answer = foreseen.answer;
+    let failed = answer.failed;
+    if !fits(earlier, failed) {
         return Replied::Refused(UNFIT);
     }
-    Replied::Answered(settle(ledger, judged, record, &stops))
+    if !failed.is_empty() {
+        return Replied::Answered(answer);
+    }
+    settle(ledger, foreseen, record, &stops);
+    Replied::Answered(answer)
 }

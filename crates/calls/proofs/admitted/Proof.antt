@@ -1,28 +1,44 @@
-use mathlib.Core.Path.{_≡_}
-use Rattle.tables.specs.Tables.{tablesOf}
-use Rattle.calls.specs.Call.{called, formalOf}
-use Rattle.calls.proofs.CallLaws.{accepted, formal-same, judged-ready, settled-call}
+use mathlib.Core.Path.{sym, _∙_}
+use borrow.Author.Tests.{not-true, not-false}
+use Rattle.ledger.proofs.LedgerLaws.{flawless, ledger-size}
+use Rattle.calls.proofs.CallLaws.{accepted, foreseen-bank, settled-failed, settled-booked}
 use borrow.Author.Needs.{needs}
 use Rattle.calls.proofs.admitted.Statement.{statement}
 use Rattle.calls.proofs.admitted.Tie as tie
 
--- what is judged of places 0 to 60 is the call's
-judged : (c : tie.After-judge-formal) → let a = c .before .before .before .before .before .before .before .before .args in
-    c .judge-formal .result ≡ formalOf (tablesOf (a .reporters .now) (a .currencies .now)) (called (a .sender .now) (a .«record» .now))
-judged c =
-    let start = c .before .before .before .before .before .before .before .before in
-    formal-same (tablesOf _ _) _ _ _ (c .before .before .index .ensures) (accepted _ _ _ (start .pre) .ordered) (c .judge-formal .ensures)
-
-settle-requires : tie.Need-settle-requires
-settle-requires c κs = judged-ready _ _ _ _ (c .before .before .before .before .before .before .before .before .before .before .pre) (c .before .before .before .before .index .ensures) (judged (c .before .before))
+judged-requires : tie.Need-judged-requires
+judged-requires c κs = (c .before .before .before .before .before .before .before .before .pre, c .before .before .index .ensures)
 
 same-length : tie.Need-same-length
 same-length c = search needs
 
 returns : tie.Need-returns
-returns c =
-    let c-settle = c .before .before .settle in
-    settled-call _ _ _ (c .before .before .before .before .before .before .before .before .before .before .before .before .before .pre) (judged (c .before .before .before .before .before)) (c-settle .ensures .0) (c-settle .ensures .1)
+returns c = settled-failed _ _ _ (c .before .before .before .before .before .before .before .before .before .before .before .before .before .pre) (c .before .before .before .before .judged .ensures) (sym (c .before .is-empty .ensures) ∙ not-true _ (c .if1 .taken))
+
+settle-requires : tie.Need-settle-requires
+settle-requires c κs =
+    let start = c .before .before .before .before .before .before .before .before .before .before .before .before .before .before .before in (
+      foreseen-bank _ _ _ (start .pre) (c .before .before .before .before .before .before .judged .ensures) (sym (c .before .before .before .is-empty .ensures) ∙ not-false _ (c .before .before .if1 .left)),
+      ledger-size _ (flawless _ (accepted _ _ _ (start .pre) .kept)),
+      c .before .before .before .before .before .before .before .before .before .index .ensures,
+    )
+
+same-length-2 : tie.Need-same-length-2
+same-length-2 c = search needs
+
+returns-2 : tie.Need-returns-2
+returns-2 c =
+    settled-booked _ _ _ (c .before .before .before .before .before .before .before .before .before .before .before .before .before .before .before .before .before .before .pre) (c .before .before .before .before .before .before .before .before .before .judged .ensures) (sym (c .before .before .before .before .before .before .is-empty .ensures) ∙ not-false _ (c .before .before .before .before .before .if1 .left)) (c .before .before .settle .ensures)
 
 pub admitted-spec : {M : Type 1} → statement M
-admitted-spec = tie.close (tie.spec (λ c κs. tt) (λ c κs. tt) settle-requires same-length returns)
+admitted-spec =
+    tie.close
+    (tie.spec
+    (λ c κs. tt)
+    judged-requires
+    (λ c κs. tt)
+    same-length
+    returns
+    settle-requires
+    same-length-2
+    returns-2)

@@ -50,7 +50,7 @@ found : (c : tie.After-judge-booking) → let a = c .before .before .before .bef
 found c =
     let start = c .before .before .before .before .before .before .before .before .before in
     let field = indexed _ _ (start .pre .indexed) in
-    rows-found (start .args .formal) _ _ (inside (c .before .before .before .before)) (c .before .before .part .ensures .bytes ∙ field 16)
+    rows-found _ _ (inside (c .before .before .before .before)) (start .args .formal) _ (c .before .before .part .ensures .bytes ∙ field 16)
     (c .before .part2 .ensures .bytes ∙ field 39) (c .judge-booking .ensures)
 
 failures : (c : tie.After-judge-booking) → let a = c .before .before .before .before .before .before .before .before .before .args in
