@@ -21,11 +21,14 @@ use Rattle.frame.proofs.PartLaws.{part-lent, put-lent, put-own}
 use Rattle.frame.proofs.ReplyLaws.{unless-holds, unless-none, unless-never, first-applies, first-passes, first-end, test-applies, test-passes}
 use Rattle.frame.proofs.ReplyLaws.{first-none, end-never, first-never}
 use Rattle.frame.proofs.Isolation.{single-refused, single-stranger, single-step}
+use Rattle.decimal.specs.Decimal.{decimalOf, valueOf}
 use Rattle.identifier.specs.Identifier.{nameUpTo}
 use Rattle.failures.specs.declared.Failures.{Failures}
 use Rattle.failures.specs.Failures.{isEmpty}
-use Rattle.fields.specs.Fields.{isWhole, fieldOf, fieldBy, stopsOf, isWholeIndex}
-use Rattle.fields.proofs.FieldLaws.{field-by, whole-index}
+use Rattle.fields.specs.declared.Place.{Place}
+use Rattle.fields.specs.Fields.{isWhole, bytesAt, fieldOf, placeIn, fieldBy, stopsOf, isWholeIndex}
+use Rattle.fields.specs.Forms.{letter}
+use Rattle.fields.proofs.FieldLaws.{field-by, whole-index, placed, field-inside, cut-bytes}
 use Rattle.tables.specs.Reporters.{reportersOk}
 use Rattle.tables.specs.Tables.{Tables, tablesFlaw}
 use Rattle.tables.proofs.FlawLaws.{reporters-refuse, currencies-refuse, tables-tested, tables-in-order, tables-never}
@@ -35,6 +38,7 @@ use Rattle.tables.proofs.ReporterLaws.{rows-below}
 use Rattle.ledger.specs.Sound.{bankCount, compartmentSize, compartment, rowCount, rowsOf, soundLedger, ledgerFlaw}
 use Rattle.ledger.specs.Lookup.{isFree, freeRow}
 use Rattle.ledger.proofs.LedgerLaws.{flawless, ledger-size}
+use Rattle.booking.specs.Booking.{booked}
 use Rattle.sender.specs.declared.Checked.{Checked}
 use Rattle.sender.specs.declared.Checked.the-variants.{Passed, Failed}
 use Rattle.sender.specs.Sender.{senderCheck}
@@ -47,7 +51,7 @@ use Rattle.answer.specs.declared.Answer.{Answer}
 use Rattle.answer.specs.Answer.{answerBytes}
 use Rattle.calls.specs.Call.{Call, called, recordLimit, noReporter, noRow, rowOf, failedOf, recordForm, callFlaw, refusalOf, checkedOf, answerOf}
 use Rattle.calls.specs.Call.{formalIn, formalBy, formalOf, bookedAs, foundRows, stepFailures, stepAnswer, stepCompartment}
-use Rattle.calls.specs.CallSteps.{Judged, ForeseenBy}
+use Rattle.calls.specs.CallSteps.{Judged, Enters, ForeseenBy}
 use Rattle.calls.specs.declared.judging.Formal.{Formal}
 use Rattle.calls.specs.declared.judging.Foreseen.{Foreseen}
 use Rattle.calls.specs.Rules.{rules}
@@ -211,22 +215,35 @@ module _ (formal : Formal) (s c : List ℕ) where
   unfolding stepFailures failuresOn
   failures-found n g = rw (n, g) refl
 
-  -- an answer that tells them, by the code's finding: with a failure no new row, else the free one; and the row that is cancelled then is the named one
-  pub foreseen-failed : {failed : Failures} {a : Answer} {named : ℕ} → failed ≡ stepFailures formal s c → isEmpty failed ≡ false
-      → a ≡ answerOf failed (formal .row) noRow s
-      → (a ≡ stepAnswer formal s c) × (isEmpty (stepFailures formal s c) ≡ true → named ≡ namedRow c (fieldOf s 16))
+  -- an answer that tells them, by the code's finding: with a failure no new row, else the free one
+  pub answer-failed : {failed : Failures} {a : Answer} → failed ≡ stepFailures formal s c → isEmpty failed ≡ false → a ≡ answerOf failed (formal .row) noRow s
+      → a ≡ stepAnswer formal s c
   unfolding stepAnswer
-  foreseen-failed e n h =
-      let z : isEmpty (stepFailures formal s c) ≡ false = rw (← e) n in
-      (h ∙ rw (e, z) refl, λ y. absurd (false≢true (sym z ∙ y)))
+  answer-failed e n h = let z : isEmpty (stepFailures formal s c) ≡ false = rw (← e) n in h ∙ rw (e, z) refl
 
-  pub foreseen-passed : {failed : Failures} {found : Booking} {a : Answer} → failed ≡ stepFailures formal s c → isEmpty failed ≡ true
-      → found ≡ foundRows formal s c → a ≡ answerOf failed (formal .row) (found .free) s
-      → (a ≡ stepAnswer formal s c) × (isEmpty (stepFailures formal s c) ≡ true → found .named ≡ namedRow c (fieldOf s 16))
-  unfolding stepAnswer bookingOf
-  foreseen-passed e n g h =
-      let z : isEmpty (stepFailures formal s c) ≡ true = rw (← e) n in
-      (h ∙ rw (e, z, g) refl, λ y. ap (λ (b : Booking). b .named) g)
+  pub foreseen-failed : {failed : Failures} {f : Foreseen} {a : Answer} → failed ≡ stepFailures formal s c → isEmpty failed ≡ false
+      → a ≡ answerOf failed (formal .row) noRow s → f .answer ≡ a → (f .answer ≡ stepAnswer formal s c) × (isEmpty (f .answer .failed) ≡ true → Enters s c f)
+  unfolding answerOf
+  foreseen-failed e n h q =
+      (q ∙ answer-failed e n h, λ z. absurd (false≢true (sym n ∙ ap (λ (w : Answer). isEmpty (w .failed)) (sym (q ∙ h)) ∙ z)))
+
+  pub answer-booked : {failed : Failures} {found : Booking} {a : Answer} → failed ≡ stepFailures formal s c → isEmpty failed ≡ true
+      → found ≡ foundRows formal s c → a ≡ answerOf failed (formal .row) (found .free) s → a ≡ stepAnswer formal s c
+  unfolding stepAnswer
+  answer-booked e n g h = let z : isEmpty (stepFailures formal s c) ≡ true = rw (← e) n in h ∙ rw (e, z, g) refl
+
+  -- what its booking then enters and cancels, by the index
+  pub enters-by : {found : Booking} {f : Foreseen} {stops f22 f7 : List ℕ} → stops ≡ stopsOf s → found ≡ foundRows formal s c
+      → f .number ≡ placeIn (length s) stops 39 → f .quantity ≡ valueOf (decimalOf 15 4 f22) → f22 ≡ fieldBy s stops 22 → f .side ≡ letter f7
+      → f7 ≡ fieldBy s stops 7 → f .named ≡ found .named → Enters s c f
+  unfolding bookingOf
+  enters-by {stops = stops} e g number quantity q22 side q7 named =
+      record {
+        number = number ∙ ap (λ (t : List ℕ). placeIn (length s) t 39) e ∙ placed s 39;
+        quantity = quantity ∙ ap (λ (t : List ℕ). valueOf (decimalOf 15 4 t)) (q22 ∙ indexed s stops e 22);
+        side = side ∙ ap letter (q7 ∙ indexed s stops e 7);
+        named = named ∙ ap (λ (b : Booking). b .named) g;
+      }
 
   -- the failures and the new row that an answer tells
   pub answer-failures : {a : Answer} → a ≡ stepAnswer formal s c → a .failed ≡ stepFailures formal s c
@@ -245,10 +262,10 @@ module _ (formal : Formal) (s c : List ℕ) where
   unfolding stepCompartment
   step-failed n = rw n refl
 
-  pub step-booked : {a : Answer} {named : ℕ} {d : List ℕ} → isEmpty (stepFailures formal s c) ≡ true → a ≡ stepAnswer formal s c
-      → named ≡ namedRow c (fieldOf s 16) → d ≡ bookedAs (a .booked) named s c → d ≡ stepCompartment formal s c
-  unfolding stepAnswer stepCompartment answerOf bookingOf
-  step-booked n h g k = k ∙ rw (h, g, n) refl
+  pub step-booked : {f : Foreseen} → isEmpty (stepFailures formal s c) ≡ true → f .answer ≡ stepAnswer formal s c → Enters s c f
+      → booked (f .answer .booked) (bytesAt s (f .number)) (f .quantity) (f .side) (f .named) c ≡ stepCompartment formal s c
+  unfolding stepAnswer stepCompartment answerOf bookedAs bookingOf fieldOf
+  step-booked n h g = rw (h, g .number, g .quantity, g .side, g .named, n) refl
 
 -- the compartment of a row, as a ledger lends it
 module _ (row : ℕ) (l : List ℕ) (inside : row * compartmentSize + compartmentSize ≤ length l) where
@@ -264,26 +281,20 @@ module _ (row : ℕ) (l : List ℕ) (inside : row * compartmentSize + compartmen
   rows-found formal s p q e = e ∙ (λ i. bookingOf (part-lent compartmentSize row l inside .0 i) (p i) (q i))
 
   -- and what is booked there comes back into its place
-  pub rows-booked : (free named : ℕ) (s : List ℕ) {d : List ℕ} → d ≡ bookedAs free named s lentPart
-      → take start l ++ (d ++ drop (start + compartmentSize - start) (drop start l)) ≡ put compartmentSize row (bookedAs free named s (compartment row l)) l
-  rows-booked free named s {d} e =
+  pub rows-booked : (free : ℕ) (s : List ℕ) (place : Place) (q side named : ℕ) {d : List ℕ}
+      → d ≡ booked free (take (place .start + place .length - place .start) (drop (place .start) s)) q side named lentPart
+      → take start l ++ (d ++ drop (start + compartmentSize - start) (drop start l))
+      ≡ put compartmentSize row (booked free (bytesAt s place) q side named (compartment row l)) l
+  rows-booked free s place q side named {d} e =
       put-lent compartmentSize row d l
-      ∙ ap (λ (w : List ℕ). put compartmentSize row w l) (e ∙ ap (bookedAs free named s) (part-lent compartmentSize row l inside .0))
+      ∙ ap (λ (w : List ℕ). put compartmentSize row w l)
+      (e ∙ (λ i. booked free (cut-bytes s place i) q side named (part-lent compartmentSize row l inside .0 i)))
 
 -- what code has judged whole that went by its call's places 0 to 60
 pub foreseen-by : (tables : Tables) (call : Call) (l : List ℕ) {formal : Formal} {f : Foreseen} → formal ≡ formalOf tables call
-    → let c = compartment (formal .row) l in
-    f .answer ≡ stepAnswer formal (call .«record») c
-    → (isEmpty (stepFailures formal (call .«record») c) ≡ true → f .named ≡ namedRow c (fieldOf (call .«record») 16)) → ForeseenBy tables call l f
-foreseen-by tables call l {formal} {f} e a n = go e a n
-  where
-    go : {g : Formal} → g ≡ formalOf tables call → f .answer ≡ stepAnswer g (call .«record») (compartment (g .row) l)
-        → (isEmpty (stepFailures g (call .«record») (compartment (g .row) l)) ≡ true
-        → f .named ≡ namedRow (compartment (g .row) l) (fieldOf (call .«record») 16)) → ForeseenBy tables call l f
-    go q a n =
-        let told : f .answer ≡ stepAnswer (formalOf tables call) (call .«record») (compartment (formalOf tables call .row) l) = rw q at a in
-        let failures = answer-failures (formalOf tables call) (call .«record») _ told in
-        record { answered = told; names = λ z. (rw q at n) (ap isEmpty (sym failures) ∙ z) }
+    → f .answer ≡ stepAnswer formal (call .«record») (compartment (formal .row) l)
+    → (isEmpty (f .answer .failed) ≡ true → Enters (call .«record») (compartment (formal .row) l) f) → ForeseenBy tables call l f
+foreseen-by tables call l e a n = record { answered = rw e at a; enters = rw e at n }
 
 -- The two outcomes of a call, on the ledger that it is lent.
 module _ (tables : Tables) (call : Call) (l : List ℕ) where
@@ -313,7 +324,7 @@ module _ (tables : Tables) (call : Call) (l : List ℕ) where
           let c : List ℕ = compartment (formal .row) l in
           let still = step-failed formal s c (ap isEmpty (failures-judged formal s c some) ∙ some) in
           λ i. record {
-            reply = R.accepted (answerBytes (sym (foreseen-failed formal s c {named = 0} (sym (failures-judged formal s c some)) some refl .0) i));
+            reply = R.accepted (answerBytes (sym (answer-failed formal s c (sym (failures-judged formal s c some)) some refl) i));
             store = (ap (λ (d : List ℕ). put compartmentSize (formal .row) d l) still ∙ put-own compartmentSize (formal .row) l) i;
           }
 
@@ -358,12 +369,18 @@ module _ (tables : Tables) (call : Call) (l : List ℕ) where
         let store = sym (ap (λ (d : List ℕ). put compartmentSize (formal .row) d l) still ∙ put-own compartmentSize (formal .row) l) in
         (λ i. record { reply = R.accepted (answerBytes (h .answered i)); store = store i }) ∙ call-settled free
 
+    -- what it enters lies in its record
+    pub foreseen-inside : isEmpty (f .answer .failed) ≡ true → f .number .start + f .number .length ≤ length (call .«record»)
+    foreseen-inside n = rw (h .enters n .number) (field-inside (call .«record») 39)
+
     pub settled-booked : {m : List ℕ} → isEmpty (f .answer .failed) ≡ true → let row = f .answer .row in
-        m ≡ put compartmentSize row (bookedAs (f .answer .booked) (f .named) (call .«record») (compartment row l)) l
+        m ≡ put compartmentSize row
+        (booked (f .answer .booked) (bytesAt (call .«record») (f .number)) (f .quantity) (f .side) (f .named) (compartment row l)) l
         → record { reply = R.accepted (answerBytes (f .answer)); store = m } ≡ I.single (rules tables) call l
     settled-booked n e =
         let none = ap isEmpty (sym foreseen-failures) ∙ n in
         let store = e
-        ∙ ap (λ (row : ℕ). put compartmentSize row (bookedAs (f .answer .booked) (f .named) (call .«record») (compartment row l)) l) foreseen-row
-        ∙ ap (λ (d : List ℕ). put compartmentSize (formal .row) d l) (step-booked formal (call .«record») c none (h .answered) (h .names n) refl) in
+        ∙ ap (λ (row : ℕ). put compartmentSize row
+        (booked (f .answer .booked) (bytesAt (call .«record») (f .number)) (f .quantity) (f .side) (f .named) (compartment row l)) l) foreseen-row
+        ∙ ap (λ (d : List ℕ). put compartmentSize (formal .row) d l) (step-booked formal (call .«record») c none (h .answered) (h .enters n)) in
         (λ i. record { reply = R.accepted (answerBytes (h .answered i)); store = store i }) ∙ call-settled free

@@ -3,18 +3,19 @@ ghost use mathlib.Core.Bool.{true};
 ghost use mathlib.Core.Path.{_≡_};
 ghost use Prim.Native.Nat.{_≤_, _<_};
 ghost use lib.ListN.{length};
+ghost use Rattle.decimal.specs.Decimal.{decimalOf, valueOf};
 ghost use Rattle.failures.specs.Failures.{isEmpty};
-ghost use Rattle.fields.specs.Fields.{fieldOf, fieldBy, stopsOf, isWholeIndex};
+ghost use Rattle.fields.specs.Fields.{fieldBy, isWholeIndex};
 ghost use Rattle.tables.specs.Currencies.{foundMoney};
 ghost use Rattle.tables.specs.Tables.{tablesOf};
 ghost use Rattle.ledger.specs.Sound.{compartment, ledgerFlaw};
-ghost use Rattle.checks.specs.Booking.{namedRow};
-ghost use Rattle.calls.specs.Call.{recordLimit, formalBy, answerOf, stepFailures, stepAnswer};
-ghost use Rattle.calls.specs.Call.{called, refusalOf};
-ghost use Rattle.calls.specs.CallSteps.{Judged, ForeseenBy};
+ghost use Rattle.calls.specs.Call.{recordLimit, called, refusalOf, formalBy, answerOf, stepAnswer};
+ghost use Rattle.calls.specs.CallSteps.{Judged, Enters, ForeseenBy};
 use answer::Answer;
 use answer::NO_REPORTER;
+use decimal::Decimal;
 use failures::Failures;
+use fields::Place;
 use fields::part;
 use ledger::COMPARTMENT_SIZE;
 use ledger::ROW_COUNT;
@@ -29,9 +30,13 @@ pub struct Formal {
     pub failed: Failures,
 }
 
-// What a record comes to on the ledger as it is: its answer, and, where it has no failure, the live row that it names, 64 for none.
+// What a record comes to on the ledger as it is: its answer; and, where it has no failure, what its booking enters and cancels: where its number lies,
+// its quantity and its side, and the live row that it names, 64 for none.
 pub(crate) struct Foreseen {
     pub answer: Answer,
+    pub number: Place,
+    pub quantity: u64,
+    pub side: u8,
     pub named: usize,
 }
 
@@ -80,8 +85,34 @@ fn answer_of(failed: Failures, row: usize, new: usize, record: &[u8]) -> Answer
     }
 }
 
-// The answer to a record whose places 0 to 60 are judged, on the ledger as it is. Where all of them pass, 61 to 63 are lent the compartment of the record's
-// bank, and nothing of the others, to read.
+// The quantity of field 22, in ten-thousandths.
+fn quantity(f22: &[u8]) -> u64
+    ensures { λ r. ⌜ r ≡ valueOf (decimalOf 15 4 (now (f22 .entry))) ⌝ }
+{
+    match decimal::read(f22, 15, 4) {
+        Decimal::Value(amount) => amount.value,
+        Decimal::Malformed => 0,
+    }
+}
+
+// A record that is answered, and not booked.
+fn unbooked(answer: Answer) -> Foreseen
+    ensures { λ r. ⌜ r .answer ≡ answer ⌝ }
+{
+    Foreseen {
+        answer,
+        number: Place {
+            start: 0,
+            length: 0,
+        },
+        quantity: 0,
+        side: 0,
+        named: ROW_COUNT,
+    }
+}
+
+// A record whose places 0 to 60 are judged, on the ledger as it is. Where all of them pass, 61 to 63 are lent the compartment of the record's bank, and
+// nothing of the others, to read.
 fn foresee<'a>(
     ledger: &'a [u8],
     formal: Formal,
@@ -90,16 +121,12 @@ fn foresee<'a>(
 ) -> Foreseen
     requires { ⌜ Judged formal (now «record») (now stops) (now ledger) ⌝ }
     ensures { λ r. ⌜ r .answer ≡ stepAnswer formal (now («record» .entry)) (compartment (formal .row) (now (ledger .entry))) ⌝ }
-    ensures { λ r. ⌜ (isEmpty (stepFailures formal (now («record» .entry)) (compartment (formal .row) (now (ledger .entry)))) ≡ true
-        → r .named ≡ namedRow (compartment (formal .row) (now (ledger .entry))) (fieldOf (now («record» .entry)) 16)) ⌝ }
+    ensures { λ r. ⌜ (isEmpty (r .answer .failed) ≡ true → Enters (now («record» .entry)) (compartment (formal .row) (now (ledger .entry))) r) ⌝ }
 {
     let row = formal.row;
     let judged = formal.failed;
     if !judged.is_empty() {
-        return Foreseen {
-            answer: answer_of(judged, row, NO_ROW, record),
-            named: ROW_COUNT,
-        };
+        return unbooked(answer_of(judged, row, NO_ROW, record));
     }
     let a = row * COMPARTMENT_SIZE;
     let e = a + COMPARTMENT_SIZE;
@@ -110,13 +137,13 @@ fn foresee<'a>(
     );
     let failed = found.failed;
     if !failed.is_empty() {
-        return Foreseen {
-            answer: answer_of(failed, row, NO_ROW, record),
-            named: ROW_COUNT,
-        };
+        return unbooked(answer_of(failed, row, NO_ROW, record));
     }
     Foreseen {
         answer: answer_of(failed, row, found.free, record),
+        number: fields::place_of(record.len(), stops, 39),
+        quantity: quantity(part(record, stops, 22)),
+        side: fields::letter_of(part(record, stops, 7)),
         named: found.named,
     }
 }
@@ -128,13 +155,12 @@ pub(crate) fn judged<'a>(
     ledger: &'a [u8],
     sender: &'a [u8],
     record: &'a [u8],
-    stops: &'a [usize; 39],
 ) -> Foreseen
-    requires { ⌜ (refusalOf (tablesOf (now reporters) (now currencies)) (called (now sender) (now «record»)) (ledgerFlaw (now ledger)) ≡ 0)
-        × (now stops ≡ stopsOf (now «record»)) ⌝ }
+    requires { ⌜ refusalOf (tablesOf (now reporters) (now currencies)) (called (now sender) (now «record»)) (ledgerFlaw (now ledger)) ≡ 0 ⌝ }
     ensures { λ r. ⌜ ForeseenBy (tablesOf (now (reporters .entry)) (now (currencies .entry))) (called (now (sender .entry)) (now («record» .entry)))
         (now (ledger .entry)) r ⌝ }
 {
-    let formal = judge_formal(reporters, currencies, sender, record, stops);
-    foresee(ledger, formal, record, stops)
+    let stops = fields::index(record);
+    let formal = judge_formal(reporters, currencies, sender, record, &stops);
+    foresee(ledger, formal, record, &stops)
 }

@@ -1,23 +1,21 @@
 // The single-record calls: judging, booking, and the old call, which is the two in a row.
 ghost use mathlib.Core.Path.{_≡_};
-ghost use Prim.Native.Nat.{_<_};
+ghost use Prim.Native.Nat.{_+_, _≤_, _<_};
 ghost use lib.ListN.{length};
 ghost use Rattle.frame.specs.Isolation.{single};
 ghost use Rattle.frame.specs.Parts.{put};
-ghost use Rattle.decimal.specs.Decimal.{decimalOf, valueOf};
 ghost use Rattle.failures.specs.Failures.{beforeBooking};
-ghost use Rattle.fields.specs.Fields.{stopsOf};
+ghost use Rattle.fields.specs.Fields.{bytesAt};
 ghost use Rattle.tables.specs.Tables.{tablesOf};
 ghost use Rattle.ledger.specs.Sound.{bankCount, compartmentSize, ledgerSize, compartment, ledgerFlaw};
-ghost use Rattle.calls.specs.Call.{recordForm, callFlaw, refusalOf, called, bookedAs};
+ghost use Rattle.booking.specs.Booking.{booked};
+ghost use Rattle.calls.specs.Call.{recordForm, callFlaw, refusalOf, called};
 ghost use Rattle.calls.specs.Rules.{rules};
 ghost use Rattle.calls.specs.Judging.{booking, fitsFailures, bookingRules, judgedOf, inARow};
 ghost use Rattle.calls.specs.Replied.{outcome};
 ghost use Rattle.calls.specs.declared.Replied.the-variants.{Answered};
 use answer::Answer;
-use decimal::Decimal;
 use failures::Failures;
-use fields::part;
 use judging::Foreseen;
 use judging::judged;
 use ledger::COMPARTMENT_SIZE;
@@ -81,48 +79,27 @@ pub fn refusal<'a>(
     call_flaw(sender, record)
 }
 
-// The quantity of field 22, in ten-thousandths.
-fn quantity(f22: &[u8]) -> u64
-    ensures { λ r. ⌜ r ≡ valueOf (decimalOf 15 4 (now (f22 .entry))) ⌝ }
-{
-    match decimal::read(f22, 15, 4) {
-        Decimal::Value(amount) => amount.value,
-        Decimal::Malformed => 0,
-    }
-}
-
-// Books a record that has no failure in its bank's compartment.
-fn book_record<'a>(
-    c: &mut [u8],
-    free: usize,
-    named: usize,
-    record: &'a [u8],
-    stops: &'a [usize; 39],
-)
-    requires { ⌜ now stops ≡ stopsOf (now «record») ⌝ }
-    ensures { λ r. ⌜ now (c .exit) ≡ bookedAs free named (now («record» .entry)) (now (c .entry)) ⌝ }
-{
-    let side = fields::letter_of(part(record, stops, 7));
-    let q = quantity(part(record, stops, 22));
-    booking::book(c, free, part(record, stops, 39), q, side, named);
-}
-
 // Books a record that is foreseen without a failure, in the compartment of its bank, and lent nothing of the others.
-fn settle<'a>(ledger: &mut [u8], foreseen: Foreseen, record: &'a [u8], stops: &'a [usize; 39])
-    requires { ⌜ (foreseen .answer .row < bankCount) × (length (now ledger) ≡ ledgerSize) × (now stops ≡ stopsOf (now «record»)) ⌝ }
+fn settle<'a>(ledger: &mut [u8], foreseen: Foreseen, record: &'a [u8])
+    requires { ⌜ (foreseen .answer .row < bankCount) × (length (now ledger) ≡ ledgerSize)
+        × (foreseen .number .start + foreseen .number .length ≤ length (now «record»)) ⌝ }
     ensures { λ r. ⌜ now (ledger .exit) ≡ put compartmentSize (foreseen .answer .row)
-        (bookedAs (foreseen .answer .booked) (foreseen .named) (now («record» .entry)) (compartment (foreseen .answer .row) (now (ledger .entry))))
-        (now (ledger .entry)) ⌝ }
+        (booked (foreseen .answer .booked) (bytesAt (now («record» .entry)) (foreseen .number)) (foreseen .quantity) (foreseen .side) (foreseen .named)
+        (compartment (foreseen .answer .row) (now (ledger .entry)))) (now (ledger .entry)) ⌝ }
 {
     let answer = foreseen.answer;
     let a = answer.row as usize * COMPARTMENT_SIZE;
     let e = a + COMPARTMENT_SIZE;
-    book_record(
+    let place = foreseen.number;
+    let start = place.start;
+    let end = start + place.length;
+    booking::book(
         &mut ledger[a..e],
         answer.booked as usize,
+        &record[start..end],
+        foreseen.quantity,
+        foreseen.side,
         foreseen.named,
-        record,
-        stops,
     );
 }
 
@@ -138,14 +115,13 @@ pub(crate) fn admitted<'a>(
     ensures { λ r. ⌜ outcome (Answered r) (now (ledger .exit)) ≡ single (rules (tablesOf (now (reporters .entry)) (now (currencies .entry))))
         (called (now (sender .entry)) (now («record» .entry))) (now (ledger .entry)) ⌝ }
 {
-    let stops = fields::index(record);
-    let foreseen = judged(reporters, currencies, ledger, sender, record, &stops);
+    let foreseen = judged(reporters, currencies, ledger, sender, record);
     let answer = foreseen.answer;
     let failed = answer.failed;
     if !failed.is_empty() {
         return answer;
     }
-    settle(ledger, foreseen, record, &stops);
+    settle(ledger, foreseen, record);
     answer
 }
 
@@ -182,8 +158,7 @@ pub fn judge_call<'a>(
     if n != 0 {
         return Replied::Refused(n);
     }
-    let stops = fields::index(record);
-    let foreseen = judged(reporters, currencies, ledger, sender, record, &stops);
+    let foreseen = judged(reporters, currencies, ledger, sender, record);
     let answer = foreseen.answer;
     Replied::Answered(answer)
 }
@@ -216,8 +191,7 @@ pub fn booking_refusal<'a>(
     if n != 0 {
         return n;
     }
-    let stops = fields::index(record);
-    let foreseen = judged(reporters, currencies, ledger, sender, record, &stops);
+    let foreseen = judged(reporters, currencies, ledger, sender, record);
     let answer = foreseen.answer;
     if fits(earlier, answer.failed) {
         0
@@ -242,8 +216,7 @@ pub fn book_call<'a>(
     if n != 0 {
         return Replied::Refused(n);
     }
-    let stops = fields::index(record);
-    let foreseen = judged(reporters, currencies, ledger, sender, record, &stops);
+    let foreseen = judged(reporters, currencies, ledger, sender, record);
     let answer = foreseen.answer;
     let failed = answer.failed;
     if !fits(earlier, failed) {
@@ -252,6 +225,6 @@ pub fn book_call<'a>(
     if !failed.is_empty() {
         return Replied::Answered(answer);
     }
-    settle(ledger, foreseen, record, &stops);
+    settle(ledger, foreseen, record);
     Replied::Answered(answer)
 }

@@ -1,44 +1,33 @@
 use mathlib.Core.Path.{sym, _∙_}
 use borrow.Author.Tests.{not-true, not-false}
 use Rattle.ledger.proofs.LedgerLaws.{flawless, ledger-size}
-use Rattle.calls.proofs.CallLaws.{accepted, foreseen-bank, settled-failed, settled-booked}
+use Rattle.calls.proofs.CallLaws.{accepted, foreseen-bank, foreseen-inside, settled-failed, settled-booked}
 use borrow.Author.Needs.{needs}
 use Rattle.calls.proofs.admitted.Statement.{statement}
 use Rattle.calls.proofs.admitted.Tie as tie
 
 judged-requires : tie.Need-judged-requires
-judged-requires c κs = (c .before .before .before .before .before .before .before .before .pre, c .before .before .index .ensures)
+judged-requires c κs = c .before .before .before .before .before .before .pre
 
 same-length : tie.Need-same-length
 same-length c = search needs
 
 returns : tie.Need-returns
-returns c = settled-failed _ _ _ (c .before .before .before .before .before .before .before .before .before .before .before .before .before .pre) (c .before .before .before .before .judged .ensures) (sym (c .before .is-empty .ensures) ∙ not-true _ (c .if1 .taken))
+returns c = settled-failed _ _ _ (c .before .before .before .before .before .before .before .before .before .before .before .pre) (c .before .before .before .before .judged .ensures) (sym (c .before .is-empty .ensures) ∙ not-true _ (c .if1 .taken))
 
 settle-requires : tie.Need-settle-requires
 settle-requires c κs =
-    let start = c .before .before .before .before .before .before .before .before .before .before .before .before .before .before .before in (
-      foreseen-bank _ _ _ (start .pre) (c .before .before .before .before .before .before .judged .ensures) (sym (c .before .before .before .is-empty .ensures) ∙ not-false _ (c .before .before .if1 .left)),
-      ledger-size _ (flawless _ (accepted _ _ _ (start .pre) .kept)),
-      c .before .before .before .before .before .before .before .before .before .index .ensures,
-    )
+    let c-pre = c .before .before .before .before .before .before .before .before .before .before .before .before .pre in
+    let none = sym (c .before .before .is-empty .ensures) ∙ not-false _ (c .before .if1 .left) in
+    let ready = c .before .before .before .before .before .judged .ensures in
+    (foreseen-bank _ _ _ c-pre ready none, ledger-size _ (flawless _ ((accepted _ _ _ c-pre) .kept)), foreseen-inside _ _ _ c-pre ready none)
 
 same-length-2 : tie.Need-same-length-2
 same-length-2 c = search needs
 
 returns-2 : tie.Need-returns-2
 returns-2 c =
-    settled-booked _ _ _ (c .before .before .before .before .before .before .before .before .before .before .before .before .before .before .before .before .before .before .pre) (c .before .before .before .before .before .before .before .before .before .judged .ensures) (sym (c .before .before .before .before .before .before .is-empty .ensures) ∙ not-false _ (c .before .before .before .before .before .if1 .left)) (c .before .before .settle .ensures)
+    settled-booked _ _ _ (c .before .before .before .before .before .before .before .before .before .before .before .before .before .before .before .pre) (c .before .before .before .before .before .before .before .before .judged .ensures) (sym (c .before .before .before .before .before .is-empty .ensures) ∙ not-false _ (c .before .before .before .before .if1 .left)) (c .before .before .settle .ensures)
 
 pub admitted-spec : {M : Type 1} → statement M
-admitted-spec =
-    tie.close
-    (tie.spec
-    (λ c κs. tt)
-    judged-requires
-    (λ c κs. tt)
-    same-length
-    returns
-    settle-requires
-    same-length-2
-    returns-2)
+admitted-spec = tie.close (tie.spec judged-requires (λ c κs. tt) same-length returns settle-requires same-length-2 returns-2)

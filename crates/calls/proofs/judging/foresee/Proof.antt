@@ -1,12 +1,12 @@
 use Prim.Native.Nat.{_*_, _+_, _≤_, _<_}
 use native.Mathlib.Omega.{arith}
-use mathlib.Core.Path.{_≡_, sym, _∙_}
+use mathlib.Core.Path.{_≡_, refl, sym, _∙_}
 use borrow.Author.Tests.{not-true, not-false}
 use lib.ListN.{length}
 use Rattle.failures.specs.Failures.{isEmpty}
 use Rattle.ledger.specs.Sound.{bankCount, compartmentSize, compartment}
 use Rattle.calls.specs.Call.{foundRows, stepFailures}
-use Rattle.calls.proofs.CallLaws.{indexed, free-small, failures-judged, failures-found, foreseen-failed, foreseen-passed, rows-found}
+use Rattle.calls.proofs.CallLaws.{indexed, free-small, failures-judged, failures-found, foreseen-failed, answer-booked, enters-by, rows-found}
 use borrow.Author.Needs.{needs}
 use Rattle.calls.proofs.judging.foresee.Statement.{statement}
 use Rattle.calls.proofs.judging.foresee.Tie as tie
@@ -18,8 +18,8 @@ answer-of-requires c κs =
 
 returns : tie.Need-returns
 returns c =
-    let some = sym (c .before .before .is-empty .ensures) ∙ not-true _ (c .before .if1 .taken) in
-    foreseen-failed _ _ _ (sym (failures-judged _ _ _ some)) some (c .answer-of .ensures)
+    let some = sym (c .before .before .before .is-empty .ensures) ∙ not-true _ (c .before .before .if1 .taken) in
+    foreseen-failed _ _ _ (sym (failures-judged _ _ _ some)) some (c .before .answer-of .ensures) (c .unbooked .ensures)
 
 -- past places 0 to 60 the row is a bank's, and its compartment is there
 bank : (c : tie.Else1) → let a = c .before .before .before .before .before .args in a .formal .row < bankCount
@@ -61,22 +61,27 @@ failures c =
 
 answer-of-requires-2 : tie.Need-answer-of-requires-2
 answer-of-requires-2 c κs =
-    let c-pre = c .before .before .before .before .before .before .before .before .before .before .before .before .pre in
-    (c-pre .row, omega arith, c-pre .short)
+    let c-pre' = c .before .before .before .before .before .before .before .before .before .before .before .before .pre in
+    (c-pre' .row, omega arith, c-pre' .short)
 
 returns-2 : tie.Need-returns-2
 returns-2 c =
-    foreseen-failed _ _ _ (failures (c .before .before .before .before)) (sym (c .before .before .is-empty2 .ensures) ∙ not-true _ (c .before .if2 .taken)) (c .answer-of2 .ensures)
+    foreseen-failed _ _ _ (failures (c .before .before .before .before .before)) (sym (c .before .before .before .is-empty2 .ensures) ∙ not-true _ (c .before .before .if2 .taken)) (c .before .answer-of2 .ensures)
+    (c .unbooked2 .ensures)
 
 answer-of-requires-3 : tie.Need-answer-of-requires-3
 answer-of-requires-3 c κs =
-    let c-pre = c .before .before .before .before .before .before .before .before .before .before .before .before .pre in
-    (c-pre .row, free-small _ _ _ (c .before .before .before .judge-booking .ensures), c-pre .short)
+    let c-pre' = c .before .before .before .before .before .before .before .before .before .before .before .before .pre in
+    (c-pre' .row, free-small _ _ _ (c .before .before .before .judge-booking .ensures), c-pre' .short)
 
 returns-3 : tie.Need-returns-3
 returns-3 c =
-    let booking = c .before .before .before .before in
-    foreseen-passed _ _ _ (failures booking) (sym (c .before .before .is-empty2 .ensures) ∙ not-false _ (c .before .if2 .left)) (found booking) (c .answer-of3 .ensures)
+    let booking = c .before .before .before .before .before .before .before .before .before in
+    let rows = found booking in (
+      answer-booked _ _ _ (failures booking) (sym (c .before .before .before .before .before .before .before .is-empty2 .ensures) ∙ not-false _ (c .before .before .before .before .before .before .if2 .left)) rows (c .before .before .before .before .before .answer-of3 .ensures),
+      λ z. enters-by (c .before .before .before .before .before .before .before .before .before .before .before .before .before .before .before .before .before .before .args .formal) _ _ (c .before .before .before .before .before .before .before .before .before .before .before .before .before .before .before .before .before .before .pre .indexed) rows (c .before .before .before .before .place-of .ensures) (c .before .before .quantity .ensures) (c .before .before .before .part3 .ensures .bytes) (c .letter-of .ensures)
+          (c .before .part4 .ensures .bytes) refl,
+    )
 
 pub foresee-spec : {M : Type 1} → statement M
 foresee-spec =
@@ -84,6 +89,7 @@ foresee-spec =
     (tie.spec
     (λ c κs. tt)
     answer-of-requires
+    (λ c κs. tt)
     returns
     mul-a
     add-e
@@ -95,6 +101,12 @@ foresee-spec =
     (λ c κs. tt)
     (λ c κs. tt)
     answer-of-requires-2
+    (λ c κs. tt)
     returns-2
     answer-of-requires-3
+    (λ c κs. tt)
+    (λ c κs. tt)
+    (λ c κs. tt)
+    (λ c κs. tt)
+    (λ c κs. tt)
     returns-3)

@@ -1,8 +1,8 @@
 use mathlib.Core.Path.{ap, sym, _∙_}
 use Rattle.decimal.specs.Decimal.{valueOf}
 use borrow.Author.Needs.{needs}
-use Rattle.calls.proofs.quantity.Statement.{statement}
-use Rattle.calls.proofs.quantity.Tie as tie
+use Rattle.calls.proofs.judging.quantity.Statement.{statement}
+use Rattle.calls.proofs.judging.quantity.Tie as tie
 
 enum-known-amount : tie.Need-enum-known-amount
 enum-known-amount c = search needs
