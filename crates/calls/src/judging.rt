@@ -1,4 +1,4 @@
-// Judging: places 0 to 60 of a record without a ledger, then 61 to 63 on its bank's compartment as it is. Nothing is booked here.
+// Judging (document 02, Item 5): places 0 to 60 of a record without a ledger, then 61 to 63 on its bank's compartment as it is. Nothing is booked here.
 ghost use mathlib.Core.Bool.{true};
 ghost use mathlib.Core.Path.{_≡_};
 ghost use Prim.Native.Nat.{_≤_, _<_};
@@ -10,7 +10,11 @@ ghost use Rattle.tables.specs.Currencies.{foundMoney};
 ghost use Rattle.tables.specs.Tables.{tablesOf};
 ghost use Rattle.ledger.specs.Sound.{compartment, ledgerFlaw};
 ghost use Rattle.calls.specs.Call.{recordLimit, called, refusalOf, formalBy, answerOf, stepAnswer};
+ghost use Rattle.calls.specs.Judging.{judgedOf};
+ghost use Rattle.calls.specs.Replied.{outcome};
 ghost use Rattle.calls.specs.CallSteps.{Judged, Enters, ForeseenBy};
+use crate::Replied;
+use crate::refusal;
 use answer::Answer;
 use answer::NO_REPORTER;
 use decimal::Decimal;
@@ -163,4 +167,24 @@ pub(crate) fn judged<'a>(
     let stops = fields::index(record);
     let formal = judge_formal(reporters, currencies, sender, record, &stops);
     foresee(ledger, formal, record, &stops)
+}
+
+// Judging: refusals 2, 3, 4, 13, 14 in that order; then the old call's answer. The ledger is lent for reading only.
+pub fn judge_call<'a>(
+    reporters: &'a [u8],
+    currencies: &'a [u8],
+    ledger: &'a [u8],
+    sender: &'a [u8],
+    record: &'a [u8],
+) -> Replied
+    ensures { λ r. ⌜ outcome r (now (ledger .entry)) ≡ judgedOf (tablesOf (now (reporters .entry)) (now (currencies .entry)))
+        (called (now (sender .entry)) (now («record» .entry))) (now (ledger .entry)) ⌝ }
+{
+    let n = refusal(reporters, currencies, ledger, sender, record);
+    if n != 0 {
+        return Replied::Refused(n);
+    }
+    let foreseen = judged(reporters, currencies, ledger, sender, record);
+    let answer = foreseen.answer;
+    Replied::Answered(answer)
 }

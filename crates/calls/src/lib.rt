@@ -1,34 +1,30 @@
-// The single-record calls: judging, booking, and the old call, which is the two in a row.
+// The single-record call: judging and booking in a row.
 ghost use mathlib.Core.Path.{_≡_};
 ghost use Prim.Native.Nat.{_+_, _≤_, _<_};
 ghost use lib.ListN.{length};
 ghost use Rattle.frame.specs.Isolation.{single};
 ghost use Rattle.frame.specs.Parts.{put};
-ghost use Rattle.failures.specs.Failures.{beforeBooking};
 ghost use Rattle.fields.specs.Fields.{bytesAt};
 ghost use Rattle.tables.specs.Tables.{tablesOf};
 ghost use Rattle.ledger.specs.Sound.{bankCount, compartmentSize, ledgerSize, compartment, ledgerFlaw};
 ghost use Rattle.booking.specs.Booking.{booked};
 ghost use Rattle.calls.specs.Call.{recordForm, callFlaw, refusalOf, called};
 ghost use Rattle.calls.specs.Rules.{rules};
-ghost use Rattle.calls.specs.Judging.{booking, fitsFailures, bookingRules, judgedOf, inARow};
+ghost use Rattle.calls.specs.Judging.{inARow};
 ghost use Rattle.calls.specs.Replied.{outcome};
 ghost use Rattle.calls.specs.declared.Replied.the-variants.{Answered};
 use answer::Answer;
-use failures::Failures;
 use judging::Foreseen;
 use judging::judged;
 use ledger::COMPARTMENT_SIZE;
 use text::Class;
 
+pub mod earlier;
 pub mod filing;
 pub mod judging;
 
 // The largest record.
 const RECORD_LIMIT: usize = 32768;
-
-// The refusal of an earlier answer that does not fit the record.
-const UNFIT: u8 = 29;
 
 // What a call returns: the number of its refusal, or its answer.
 pub enum Replied {
@@ -79,8 +75,8 @@ pub fn refusal<'a>(
     call_flaw(sender, record)
 }
 
-// Books a record that is foreseen without a failure, in the compartment of its bank, and lent nothing of the others.
-fn settle<'a>(ledger: &mut [u8], foreseen: Foreseen, record: &'a [u8])
+// Books a record that is foreseen without a failure: the booking is lent the compartment of its bank, and nothing of the others.
+pub(crate) fn settle<'a>(ledger: &mut [u8], foreseen: Foreseen, record: &'a [u8])
     requires { ⌜ (foreseen .answer .row < bankCount) × (length (now ledger) ≡ ledgerSize)
         × (foreseen .number .start + foreseen .number .length ≤ length (now «record»)) ⌝ }
     ensures { λ r. ⌜ now (ledger .exit) ≡ put compartmentSize (foreseen .answer .row)
@@ -141,90 +137,4 @@ pub fn record_call<'a>(
         return Replied::Refused(n);
     }
     Replied::Answered(admitted(reporters, currencies, ledger, sender, record))
-}
-
-// Judging: refusals 2, 3, 4, 13, 14 in that order; then the old call's answer. The ledger is lent for reading only.
-pub fn judge_call<'a>(
-    reporters: &'a [u8],
-    currencies: &'a [u8],
-    ledger: &'a [u8],
-    sender: &'a [u8],
-    record: &'a [u8],
-) -> Replied
-    ensures { λ r. ⌜ outcome r (now (ledger .entry)) ≡ judgedOf (tablesOf (now (reporters .entry)) (now (currencies .entry)))
-        (called (now (sender .entry)) (now («record» .entry))) (now (ledger .entry)) ⌝ }
-{
-    let n = refusal(reporters, currencies, ledger, sender, record);
-    if n != 0 {
-        return Replied::Refused(n);
-    }
-    let foreseen = judged(reporters, currencies, ledger, sender, record);
-    let answer = foreseen.answer;
-    Replied::Answered(answer)
-}
-
-// Whether an earlier answer is sixteen bytes that have, of places 0 to 60, just those of these failures. Nothing else of it is looked at.
-fn fits(earlier: &[u8], failed: Failures) -> bool
-    ensures { λ r. ⌜ r ≡ fitsFailures (now (earlier .entry)) (beforeBooking failed) ⌝ }
-{
-    if earlier.len() != answer::SIZE {
-        return false;
-    }
-    let told = answer::read(earlier, 0);
-    let set = told.failed;
-    set.before_booking().same(failed.before_booking())
-}
-
-// The number by which a booking is refused: 2, 3, 4, 13, 14, 29, the first that applies; 0 for none.
-pub fn booking_refusal<'a>(
-    reporters: &'a [u8],
-    currencies: &'a [u8],
-    ledger: &'a [u8],
-    sender: &'a [u8],
-    record: &'a [u8],
-    earlier: &'a [u8],
-) -> u8
-    ensures { λ r. ⌜ r ≡ bookingRules (tablesOf (now (reporters .entry)) (now (currencies .entry))) .refusal
-        (booking (called (now (sender .entry)) (now («record» .entry))) (now (earlier .entry))) (ledgerFlaw (now (ledger .entry))) ⌝ }
-{
-    let n = refusal(reporters, currencies, ledger, sender, record);
-    if n != 0 {
-        return n;
-    }
-    let foreseen = judged(reporters, currencies, ledger, sender, record);
-    let answer = foreseen.answer;
-    if fits(earlier, answer.failed) {
-        0
-    } else {
-        UNFIT
-    }
-}
-
-// Booking: refusals 2, 3, 4, 13, 14, 29 in that order; then the old call's answer and effect on the ledger as it is. Places 61 to 63 are judged again.
-pub fn book_call<'a>(
-    reporters: &'a [u8],
-    currencies: &'a [u8],
-    ledger: &mut [u8],
-    sender: &'a [u8],
-    record: &'a [u8],
-    earlier: &'a [u8],
-) -> Replied
-    ensures { λ r. ⌜ outcome r (now (ledger .exit)) ≡ single (bookingRules (tablesOf (now (reporters .entry)) (now (currencies .entry))))
-        (booking (called (now (sender .entry)) (now («record» .entry))) (now (earlier .entry))) (now (ledger .entry)) ⌝ }
-{
-    let n = refusal(reporters, currencies, ledger, sender, record);
-    if n != 0 {
-        return Replied::Refused(n);
-    }
-    let foreseen = judged(reporters, currencies, ledger, sender, record);
-    let answer = foreseen.answer;
-    let failed = answer.failed;
-    if !fits(earlier, failed) {
-        return Replied::Refused(UNFIT);
-    }
-    if !failed.is_empty() {
-        return Replied::Answered(answer);
-    }
-    settle(ledger, foreseen, record);
-    Replied::Answered(answer)
 }

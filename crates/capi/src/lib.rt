@@ -85,7 +85,7 @@ pub extern "C" fn roselhanda_judge<'a>(
     if answer.len() < answer::SIZE {
         return short_number(calls::refusal(reporters, currencies, ledger, sender, record));
     }
-    match calls::judge_call(reporters, currencies, ledger, sender, record) {
+    match calls::judging::judge_call(reporters, currencies, ledger, sender, record) {
         Replied::Refused(n) => wide(n),
         Replied::Answered(a) => {
             answer::write(a, answer, 0);
@@ -110,7 +110,7 @@ pub extern "C" fn roselhanda_book<'a>(
         (now (ledger .entry)) (now (answer .entry)) ⌝ }
 {
     if answer.len() < answer::SIZE {
-        return short_number(calls::booking_refusal(
+        return short_number(calls::earlier::booking_refusal(
             reporters,
             currencies,
             ledger,
@@ -119,7 +119,7 @@ pub extern "C" fn roselhanda_book<'a>(
             earlier,
         ));
     }
-    match calls::book_call(reporters, currencies, ledger, sender, record, earlier) {
+    match calls::earlier::book_call(reporters, currencies, ledger, sender, record, earlier) {
         Replied::Refused(n) => wide(n),
         Replied::Answered(a) => {
             answer::write(a, answer, 0);

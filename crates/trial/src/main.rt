@@ -117,7 +117,13 @@ fn judge<'a>(
     requires { ⌜ (done .booked ≤ done .number) × (done .number < 18446744073709551615) ⌝ }
     ensures { λ r. ⌜ (r .booked ≤ r .number) × (r .number ≡ done .number + 1) ⌝ }
 {
-    let replied = calls::judge_call(reporters, currencies, ledger, sender, record_of(line));
+    let replied = calls::judging::judge_call(
+        reporters,
+        currencies,
+        ledger,
+        sender,
+        record_of(line),
+    );
     let printed = tell(done.number + 1, replied);
     counted(done, bookings(replied), printed)
 }

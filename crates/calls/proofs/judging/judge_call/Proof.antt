@@ -1,7 +1,7 @@
 use mathlib.Core.Path.{sym, _∙_}
 use Rattle.calls.proofs.JudgingLaws.{judged-refused, judged-answered}
-use Rattle.calls.proofs.judge_call.Statement.{statement}
-use Rattle.calls.proofs.judge_call.Tie as tie
+use Rattle.calls.proofs.judging.judge_call.Statement.{statement}
+use Rattle.calls.proofs.judging.judge_call.Tie as tie
 
 returns : tie.Need-returns
 returns c = judged-refused _ _ _ (c .before .refusal .ensures) (c .if1 .taken)

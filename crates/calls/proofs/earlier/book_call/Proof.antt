@@ -5,8 +5,8 @@ use Rattle.ledger.proofs.LedgerLaws.{flawless, ledger-size}
 use Rattle.calls.proofs.CallLaws.{accepted, foreseen-bank, foreseen-inside, settled-failed, settled-booked}
 use Rattle.calls.proofs.JudgingLaws.{number-first, number-unfit, booking-refused, booking-same}
 use borrow.Author.Needs.{needs}
-use Rattle.calls.proofs.book_call.Statement.{statement}
-use Rattle.calls.proofs.book_call.Tie as tie
+use Rattle.calls.proofs.earlier.book_call.Statement.{statement}
+use Rattle.calls.proofs.earlier.book_call.Tie as tie
 
 same-length : tie.Need-same-length
 same-length c = search needs

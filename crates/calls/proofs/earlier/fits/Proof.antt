@@ -1,6 +1,6 @@
 use Rattle.calls.proofs.JudgingLaws.{fits-not, fits-told}
-use Rattle.calls.proofs.fits.Statement.{statement}
-use Rattle.calls.proofs.fits.Tie as tie
+use Rattle.calls.proofs.earlier.fits.Statement.{statement}
+use Rattle.calls.proofs.earlier.fits.Tie as tie
 
 returns : tie.Need-returns
 returns c = fits-not _ _ (c .if1 .taken)

@@ -1,7 +1,7 @@
 use mathlib.Core.Path.{sym, _∙_}
 use Rattle.calls.proofs.JudgingLaws.{number-first, number-unfit, number-none}
-use Rattle.calls.proofs.booking_refusal.Statement.{statement}
-use Rattle.calls.proofs.booking_refusal.Tie as tie
+use Rattle.calls.proofs.earlier.booking_refusal.Statement.{statement}
+use Rattle.calls.proofs.earlier.booking_refusal.Tie as tie
 
 returns : tie.Need-returns
 returns c = number-first _ _ _ _ (c .before .refusal .ensures) (c .if1 .taken)
