@@ -130,7 +130,8 @@ passed-bank tables call ok e =
     omega (arith, rows-below (tables .reporters) ok, passed-row (tables .reporters) (call .sender) (isWhole s) (fieldOf s 1) (fieldOf s 2) e .1)
 
 -- places 0 to 60 by what the sender check has found of whether the record is whole and of its first two fields
-pub formal-by : (reporters : List ℕ) (money : List ℕ → Bool) (sender : List ℕ) (F : ℕ → List ℕ) {whole w : Bool} {f1 f2 : List ℕ} {k : Checked} {formal : Formal}
+pub formal-by : (reporters : List ℕ) (money : List ℕ → Bool) (sender : List ℕ) (F : ℕ → List ℕ) {whole w : Bool} {f1 f2 : List ℕ}
+    {k : Checked} {formal : Formal}
     → w ≡ whole → f1 ≡ F 1 → f2 ≡ F 2 → k ≡ senderCheck reporters sender w f1 f2 → formal ≡ formalIn reporters money F k
     → formal ≡ formalBy reporters money sender whole F
 unfolding formalBy

@@ -54,8 +54,8 @@ module _ (earlier : List ℕ) (failed : Failures) where
   unfolding fitsFailures
   fits-not ne = rw (ne-eqb _ _ ne) refl
 
-  pub fits-told : {told : Answer} {set places : Failures} {r : Bool} → length earlier ≡ answerSize → told ≡ answerAt 0 earlier → set ≡ beforeBooking (told .failed)
-      → places ≡ failed → r ≡ sameSet set places → r ≡ fitsFailures earlier failed
+  pub fits-told : {told : Answer} {set places : Failures} {r : Bool} → length earlier ≡ answerSize → told ≡ answerAt 0 earlier
+      → set ≡ beforeBooking (told .failed) → places ≡ failed → r ≡ sameSet set places → r ≡ fitsFailures earlier failed
   unfolding fitsFailures
   fits-told long t b p e = and-goes _ (eq-eqb _ _ long) (e ∙ rw (b, t, p))
 

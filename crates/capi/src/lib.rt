@@ -2,8 +2,12 @@
 // refused call writes nothing; the field view and the sum are never refused, and return what they tell.
 ghost use mathlib.Core.List.{[], _∷_};
 ghost use mathlib.Core.Path.{_≡_};
+ghost use lib.Dec.{ltb};
+ghost use lib.ListN.{length};
+ghost use Rattle.answer.specs.Answer.{answerSize};
 ghost use Rattle.tables.specs.Tables.{tablesOf};
-ghost use Rattle.capi.specs.Exported.{exported, recordExport, judgeExport, bookExport, fileExport, shortNumber, fieldNumbers, fieldExport, errorExport, sumExport};
+ghost use Rattle.capi.specs.Exported.{exported, recordExport, judgeExport, bookExport, fileExport, shortNumber};
+ghost use Rattle.capi.specs.Exported.{fieldNumbers, fieldExport, errorExport, sumExport};
 use calls::Replied;
 use calls::filing::Filed;
 use error_file::Wrote;
@@ -11,6 +15,13 @@ use text::wide;
 
 // The refusal of an answer buffer that is too short.
 const SHORT_BUFFER: u64 = 12;
+
+// Whether a buffer has no room for one answer.
+fn is_short(answer: &[u8]) -> bool
+    ensures { λ r. ⌜ r ≡ ltb (length (now (answer .entry))) answerSize ⌝ }
+{
+    answer.len() < answer::SIZE
+}
 
 // The number of a call whose buffer is too short: its own refusal, else 12. Nothing is booked.
 fn short_number(n: u8) -> u64
@@ -33,7 +44,7 @@ pub extern "C" fn roselhanda_record<'a>(
         ≡ recordExport (tablesOf (now (reporters .entry)) (now (currencies .entry))) (now (sender .entry)) (now («record» .entry)) (now (ledger .entry))
         (now (answer .entry)) ⌝ }
 {
-    if answer.len() < answer::SIZE {
+    if is_short(answer) {
         return short_number(calls::refusal(reporters, currencies, ledger, sender, record));
     }
     match calls::record_call(reporters, currencies, ledger, sender, record) {
@@ -82,7 +93,7 @@ pub extern "C" fn roselhanda_judge<'a>(
         ≡ judgeExport (tablesOf (now (reporters .entry)) (now (currencies .entry))) (now (sender .entry)) (now («record» .entry)) (now (ledger .entry))
         (now (answer .entry)) ⌝ }
 {
-    if answer.len() < answer::SIZE {
+    if is_short(answer) {
         return short_number(calls::refusal(reporters, currencies, ledger, sender, record));
     }
     match calls::judging::judge_call(reporters, currencies, ledger, sender, record) {
@@ -109,7 +120,7 @@ pub extern "C" fn roselhanda_book<'a>(
         ≡ bookExport (tablesOf (now (reporters .entry)) (now (currencies .entry))) (now (sender .entry)) (now («record» .entry)) (now (earlier .entry))
         (now (ledger .entry)) (now (answer .entry)) ⌝ }
 {
-    if answer.len() < answer::SIZE {
+    if is_short(answer) {
         return short_number(calls::earlier::booking_refusal(
             reporters,
             currencies,

@@ -13,7 +13,9 @@ same-length : tie.Need-same-length
 same-length c = search needs
 
 returns : tie.Need-returns
-returns c = settled-failed _ _ _ (c .before .before .before .before .before .before .before .before .before .before .before .pre) (c .before .before .before .before .judged .ensures) (sym (c .before .is-empty .ensures) ∙ not-true _ (c .if1 .taken))
+returns c =
+    settled-failed _ _ _ (c .before .before .before .before .before .before .before .before .before .before .before .pre)
+    (c .before .before .before .before .judged .ensures) (sym (c .before .is-empty .ensures) ∙ not-true _ (c .if1 .taken))
 
 settle-requires : tie.Need-settle-requires
 settle-requires c κs =
@@ -27,7 +29,10 @@ same-length-2 c = search needs
 
 returns-2 : tie.Need-returns-2
 returns-2 c =
-    settled-booked _ _ _ (c .before .before .before .before .before .before .before .before .before .before .before .before .before .before .before .pre) (c .before .before .before .before .before .before .before .before .judged .ensures) (sym (c .before .before .before .before .before .is-empty .ensures) ∙ not-false _ (c .before .before .before .before .if1 .left)) (c .before .before .settle .ensures)
+    settled-booked _ _ _ (c .before .before .before .before .before .before .before .before .before .before .before .before .before .before .before .pre)
+    (c .before .before .before .before .before .before .before .before .judged .ensures)
+    (sym (c .before .before .before .before .before .is-empty .ensures) ∙ not-false _ (c .before .before .before .before .if1 .left))
+    (c .before .before .settle .ensures)
 
 pub admitted-spec : {M : Type 1} → statement M
 admitted-spec = tie.close (tie.spec judged-requires (λ c κs. tt) same-length returns settle-requires same-length-2 returns-2)

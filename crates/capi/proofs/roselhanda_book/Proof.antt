@@ -1,4 +1,5 @@
-use mathlib.Core.Path.{ap, _∙_}
+use mathlib.Core.Path.{ap, sym, _∙_}
+use borrow.Author.Tests.{ltb-true, ltb-false}
 use Rattle.frame.proofs.Consequences.{single-decided}
 use Rattle.calls.specs.Judging.{bookingRules}
 use Rattle.capi.specs.Exported.{shortNumber}
@@ -8,13 +9,22 @@ use Rattle.capi.proofs.roselhanda_book.Statement.{statement}
 use Rattle.capi.proofs.roselhanda_book.Tie as tie
 
 returns : tie.Need-returns
-returns c = short-exported _ (single-decided (bookingRules _) _ _) _ (c .before .before .before .if1 .taken) (c .short-number .ensures ∙ ap shortNumber (c .before .booking-refusal .ensures))
+returns c =
+    short-exported _ (single-decided (bookingRules _) _ _) _
+    (ltb-true _ _ (sym (c .before .before .before .before .is-short .ensures) ∙ (c .before .before .before .if1 .taken)))
+    (c .short-number .ensures ∙ ap shortNumber (c .before .booking-refusal .ensures))
 
 returns-2 : tie.Need-returns-2
-returns-2 c = refused-exported _ (single-decided (bookingRules _) _ _) _ _ (c .before .before .n .given .1) (c .before .before .before .before .before .before .book-call .ensures) (c .wide .ensures .0)
+returns-2 c =
+    refused-exported _ (single-decided (bookingRules _) _ _) _ _ (c .before .before .n .given .1)
+    (c .before .before .before .before .before .before .book-call .ensures) (c .wide .ensures .0)
 
 returns-3 : tie.Need-returns-3
-returns-3 c = answered-exported _ (single-decided (bookingRules _) _ _) _ _ _ (c .before .before .before .before .before .before .before .before .before .before .before .if1 .left) (c .before .before .before .before .before .a .given .1) (c .before .before .before .before .before .before .before .before .before .book-call .ensures) (c .before .before .write .ensures)
+returns-3 c =
+    answered-exported _ (single-decided (bookingRules _) _ _) _ _ _
+    (ltb-false _ _ (sym (c .before .before .before .before .before .before .before .before .before .before .before .before .is-short .ensures) ∙ (c .before .before .before .before .before .before .before .before .before .before .before .if1 .left)))
+    (c .before .before .before .before .before .a .given .1)
+    (c .before .before .before .before .before .before .before .before .before .book-call .ensures) (c .before .before .write .ensures)
 
 pub roselhanda-book-spec : {M : Type 1} → statement M
 roselhanda-book-spec =
@@ -22,6 +32,8 @@ roselhanda-book-spec =
     (tie.spec
     (λ c κs. tt)
     (λ c κs. tt)
+    (λ c κs. tt)
+    (λ c. search needs)
     (λ c. search needs)
     returns
     (λ c κs. tt)
@@ -29,6 +41,7 @@ roselhanda-book-spec =
     (λ c κs. tt)
     (λ c. search needs)
     (λ c κs. tt)
+    (λ c. search needs)
     (λ c. search needs)
     returns-2
     (λ c. search needs)

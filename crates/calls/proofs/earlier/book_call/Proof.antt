@@ -22,26 +22,33 @@ same-length-2 c = search needs
 
 returns-2 : tie.Need-returns-2
 returns-2 c =
-    let c-refusal = c .before .before .before .before .before .before .before .refusal in
-    booking-refused _ _ _ _ (c-refusal .ensures)
-    (number-unfit _ _ _ _ (c-refusal .ensures) (c .before .before .before .before .before .before .if1 .left) (c .before .before .before .before .judged .ensures) (c .before .fits2 .ensures) (not-true _ (c .if2 .taken))) (omega arith)
+    let judged = c .before .before .before .before in
+    let free = judged .before .before in
+    booking-refused _ _ _ _ (free .before .refusal .ensures)
+    (number-unfit _ _ _ _ (free .before .refusal .ensures) (free .if1 .left) (judged .judged .ensures) (c .before .fits2 .ensures) (not-true _ (c .if2 .taken)))
+    (omega arith)
 
 same-length-3 : tie.Need-same-length-3
 same-length-3 c = search needs
 
 returns-3 : tie.Need-returns-3
 returns-3 c =
-    let c-refusal = c .before .before .before .before .before .before .before .before .before .refusal in
-    let c-if1 = c .before .before .before .before .before .before .before .before .if1 in
-    let c-judged = c .before .before .before .before .before .before .judged in
-    booking-same _ _ _ _ (c-refusal .ensures) (c-if1 .left) (c-judged .ensures) (c .before .before .before .fits2 .ensures) (not-false _ (c .before .before .if2 .left))
-    (settled-failed _ _ _ (sym (c-refusal .ensures) ∙ (c-if1 .left)) (c-judged .ensures) (sym (c .before .is-empty .ensures) ∙ not-true _ (c .if3 .taken)))
+    let fitting = c .before .before in
+    let judged = fitting .before .before .before .before in
+    let free = judged .before .before in
+    booking-same _ _ _ _ (free .before .refusal .ensures) (free .if1 .left) (judged .judged .ensures) (fitting .before .fits2 .ensures)
+    (not-false _ (fitting .if2 .left))
+    (settled-failed _ _ _ (sym (free .before .refusal .ensures) ∙ free .if1 .left) (judged .judged .ensures)
+    (sym (c .before .is-empty .ensures) ∙ not-true _ (c .if3 .taken)))
 
 settle-requires : tie.Need-settle-requires
 settle-requires c κs =
-    let free = sym (c .before .before .before .before .before .before .before .before .before .before .refusal .ensures) ∙ (c .before .before .before .before .before .before .before .before .before .if1 .left) in
-    let none = sym (c .before .before .is-empty .ensures) ∙ not-false _ (c .before .if3 .left) in
-    let ready = c .before .before .before .before .before .before .before .judged .ensures in
+    let passed = c .before in
+    let judged = passed .before .before .before .before .before .before in
+    let call = judged .before .before in
+    let free = sym (call .before .refusal .ensures) ∙ call .if1 .left in
+    let none = sym (passed .before .is-empty .ensures) ∙ not-false _ (passed .if3 .left) in
+    let ready = judged .judged .ensures in
     (foreseen-bank _ _ _ free ready none, ledger-size _ (flawless _ (accepted _ _ _ free .kept)), foreseen-inside _ _ _ free ready none)
 
 same-length-4 : tie.Need-same-length-4
@@ -49,11 +56,14 @@ same-length-4 c = search needs
 
 returns-4 : tie.Need-returns-4
 returns-4 c =
-    let c-refusal = c .before .before .before .before .before .before .before .before .before .before .before .before .before .refusal in
-    let c-if1 = c .before .before .before .before .before .before .before .before .before .before .before .before .if1 in
-    let c-judged = c .before .before .before .before .before .before .before .before .before .before .judged in
-    booking-same _ _ _ _ (c-refusal .ensures) (c-if1 .left) (c-judged .ensures) (c .before .before .before .before .before .before .before .fits2 .ensures) (not-false _ (c .before .before .before .before .before .before .if2 .left))
-    (settled-booked _ _ _ (sym (c-refusal .ensures) ∙ (c-if1 .left)) (c-judged .ensures) (sym (c .before .before .before .before .before .is-empty .ensures) ∙ not-false _ (c .before .before .before .before .if3 .left)) (c .before .before .settle .ensures))
+    let passed = c .before .before .before .before in
+    let fitting = passed .before .before in
+    let judged = fitting .before .before .before .before in
+    let free = judged .before .before in
+    booking-same _ _ _ _ (free .before .refusal .ensures) (free .if1 .left) (judged .judged .ensures) (fitting .before .fits2 .ensures)
+    (not-false _ (fitting .if2 .left))
+    (settled-booked _ _ _ (sym (free .before .refusal .ensures) ∙ free .if1 .left) (judged .judged .ensures)
+    (sym (passed .before .is-empty .ensures) ∙ not-false _ (passed .if3 .left)) (c .before .before .settle .ensures))
 
 pub book-call-spec : {M : Type 1} → statement M
 book-call-spec =

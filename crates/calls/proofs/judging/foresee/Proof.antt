@@ -66,7 +66,8 @@ answer-of-requires-2 c κs =
 
 returns-2 : tie.Need-returns-2
 returns-2 c =
-    foreseen-failed _ _ _ (failures (c .before .before .before .before .before)) (sym (c .before .before .before .is-empty2 .ensures) ∙ not-true _ (c .before .before .if2 .taken)) (c .before .answer-of2 .ensures)
+    foreseen-failed _ _ _ (failures (c .before .before .before .before .before))
+    (sym (c .before .before .before .is-empty2 .ensures) ∙ not-true _ (c .before .before .if2 .taken)) (c .before .answer-of2 .ensures)
     (c .unbooked2 .ensures)
 
 answer-of-requires-3 : tie.Need-answer-of-requires-3
@@ -76,10 +77,14 @@ answer-of-requires-3 c κs =
 
 returns-3 : tie.Need-returns-3
 returns-3 c =
-    let booking = c .before .before .before .before .before .before .before .before .before in
-    let rows = found booking in (
-      answer-booked _ _ _ (failures booking) (sym (c .before .before .before .before .before .before .before .is-empty2 .ensures) ∙ not-false _ (c .before .before .before .before .before .before .if2 .left)) rows (c .before .before .before .before .before .answer-of3 .ensures),
-      λ z. enters-by (c .before .before .before .before .before .before .before .before .before .before .before .before .before .before .before .before .before .before .args .formal) _ _ (c .before .before .before .before .before .before .before .before .before .before .before .before .before .before .before .before .before .before .pre .indexed) rows (c .before .before .before .before .place-of .ensures) (c .before .before .quantity .ensures) (c .before .before .before .part3 .ensures .bytes) (c .letter-of .ensures)
+    let tested = c .before .before .before .before .before .before in
+    let booking = tested .before .before .before in
+    let start = booking .before .before .before .before .before .before .before .before .before in
+    let rows = found booking in
+    let passed = sym (tested .before .is-empty2 .ensures) ∙ not-false _ (tested .if2 .left) in (
+      answer-booked _ _ _ (failures booking) passed rows (c .before .before .before .before .before .answer-of3 .ensures),
+      λ z. enters-by (start .args .formal) _ _ (start .pre .indexed) rows (c .before .before .before .before .place-of .ensures)
+          (c .before .before .quantity .ensures) (c .before .before .before .part3 .ensures .bytes) (c .letter-of .ensures)
           (c .before .part4 .ensures .bytes) refl,
     )
 

@@ -13,7 +13,9 @@ found : (c : tie.After-check) {formal : Formal} → let a = c .before .before .b
     formal ≡ formalIn (a .reporters .now) (foundMoney (a .currencies .now)) (fieldBy (a .«record» .now) (a .stops .now)) (c .check .result)
     → formal ≡ formalBy (a .reporters .now) (foundMoney (a .currencies .now)) (a .sender .now) (isWholeIndex (a .stops .now))
     (fieldBy (a .«record» .now) (a .stops .now))
-found c f = formal-by _ _ _ _ (c .before .before .before .is-whole .ensures) (c .before .before .part .ensures .bytes) (c .before .part2 .ensures .bytes) (c .check .ensures) f
+found c f =
+    formal-by _ _ _ _ (c .before .before .before .is-whole .ensures) (c .before .before .part .ensures .bytes) (c .before .part2 .ensures .bytes)
+    (c .check .ensures) f
 
 enum-known-row : tie.Need-enum-known-row
 enum-known-row c = search needs

@@ -14,7 +14,9 @@ formal c =
     formal-same (tablesOf _ _) _ _ _ (c .before .before .index .ensures) (accepted _ _ _ pre .ordered) (c .judge-formal .ensures)
 
 foresee-requires : tie.Need-foresee-requires
-foresee-requires c κs = judged-ready _ _ _ _ (c .before .before .before .before .before .before .before .before .before .pre) (c .before .before .before .index .ensures) (formal (c .before))
+foresee-requires c κs =
+    judged-ready _ _ _ _ (c .before .before .before .before .before .before .before .before .before .pre) (c .before .before .before .index .ensures)
+    (formal (c .before))
 
 returns : tie.Need-returns
 returns c = foreseen-by _ _ _ (formal (c .before .before)) (c .foresee .ensures .0) (c .foresee .ensures .1)
