@@ -19,20 +19,22 @@ returns c =
 
 settle-requires : tie.Need-settle-requires
 settle-requires c κs =
-    let c-pre = c .before .before .before .before .before .before .before .before .before .before .before .before .pre in
-    let none = sym (c .before .before .is-empty .ensures) ∙ not-false _ (c .before .if1 .left) in
-    let ready = c .before .before .before .before .before .judged .ensures in
-    (foreseen-bank _ _ _ c-pre ready none, ledger-size _ (flawless _ ((accepted _ _ _ c-pre) .kept)), foreseen-inside _ _ _ c-pre ready none)
+    let passed = c .before in
+    let judged = passed .before .before .before .before in
+    let pre = judged .before .before .before .before .before .before .before .pre in
+    let none = sym (passed .before .is-empty .ensures) ∙ not-false _ (passed .if1 .left) in
+    let ready = judged .judged .ensures in
+    (foreseen-bank _ _ _ pre ready none, ledger-size _ (flawless _ ((accepted _ _ _ pre) .kept)), foreseen-inside _ _ _ pre ready none)
 
 same-length-2 : tie.Need-same-length-2
 same-length-2 c = search needs
 
 returns-2 : tie.Need-returns-2
 returns-2 c =
-    settled-booked _ _ _ (c .before .before .before .before .before .before .before .before .before .before .before .before .before .before .before .pre)
-    (c .before .before .before .before .before .before .before .before .judged .ensures)
-    (sym (c .before .before .before .before .before .is-empty .ensures) ∙ not-false _ (c .before .before .before .before .if1 .left))
-    (c .before .before .settle .ensures)
+    let passed = c .before .before .before .before in
+    let judged = passed .before .before .before .before in
+    settled-booked _ _ _ (judged .before .before .before .before .before .before .before .pre) (judged .judged .ensures)
+    (sym (passed .before .is-empty .ensures) ∙ not-false _ (passed .if1 .left)) (c .before .before .settle .ensures)
 
 pub admitted-spec : {M : Type 1} → statement M
 admitted-spec = tie.close (tie.spec judged-requires (λ c κs. tt) same-length returns settle-requires same-length-2 returns-2)

@@ -20,7 +20,8 @@ returns-2 c =
 returns-3 : tie.Need-returns-3
 returns-3 c =
     answered-exported _ (judged-decided _ _ _) _ _ _
-    (ltb-false _ _ (sym (c .before .before .before .before .before .before .before .before .before .is-short .ensures) ∙ (c .before .before .before .before .before .before .before .before .if1 .left)))
+    (ltb-false _ _ (sym (c .before .before .before .before .before .before .before .before .before .is-short .ensures)
+    ∙ (c .before .before .before .before .before .before .before .before .if1 .left)))
     (c .before .before .before .before .before .a .given .1)
     (c .before .before .before .before .before .before .before .judge-call .ensures) (c .before .before .write .ensures)
 
