@@ -45,7 +45,7 @@ use Rattle.sender.specs.Sender.{senderCheck}
 use Rattle.sender.proofs.SenderLaws.{passed-row, failed-some}
 use Rattle.checks.specs.declared.Booking.{Booking}
 use Rattle.checks.specs.Record.{recordFailures}
-use Rattle.checks.specs.Booking.{namedRow, bookingOf}
+use Rattle.checks.specs.Booking.{bookingOf}
 use Rattle.checks.specs.Verdict.{failuresOn}
 use Rattle.answer.specs.declared.Answer.{Answer}
 use Rattle.answer.specs.Answer.{answerBytes}

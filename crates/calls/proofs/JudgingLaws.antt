@@ -3,7 +3,7 @@
 -- Assumes nothing.
 use Prim.Native.Nat.{ℕ}
 use native.Mathlib.Omega.{arith}
-use mathlib.Core.Bool.{Bool, true, false, _&&_}
+use mathlib.Core.Bool.{Bool, true, false}
 use mathlib.Core.List.{List, [], _∷_, map}
 use mathlib.Core.Logic.{_≢_}
 use mathlib.Core.Path.{_≡_, refl, ap, sym, _∙_}
@@ -150,23 +150,20 @@ module _ (tables : Tables) where
       let same = judged-calls calls morning in
       (day .0 ∙ ap (λ (cs : List Call). replies (rules tables) cs evening) same, day .1 ∙ ap (λ (cs : List Call). storeAfter (rules tables) cs evening) same)
 
-  -- what judging returns, refused or not; the ledger is as it was
+  -- what judging returns, refused or not: the reply of an outcome, beside the ledger as it was
   module _ (call : Call) (l : List ℕ) where
+    abbrev unbooked : Outcome (List ℕ) (List ℕ) → Outcome (List ℕ) (List ℕ)
+    unbooked o = record { reply = o .reply; store = l }
+
     pub judged-refused : {n : ℕ} → n ≡ refusalOf tables call (ledgerFlaw l) → n ≢ 0 → record { reply = refused n; store = l } ≡ judgedOf tables call l
     unfolding judgedOf
-    judged-refused e ne = ap replied (law.call-refused tables call l e ne)
-      where
-        replied : Outcome (List ℕ) (List ℕ) → Outcome (List ℕ) (List ℕ)
-        replied o = record { reply = o .reply; store = l }
+    judged-refused e ne = ap unbooked (law.call-refused tables call l e ne)
 
     pub judged-answered : {f : Foreseen} → refusalOf tables call (ledgerFlaw l) ≡ 0 → ForeseenBy tables call l f
         → record { reply = accepted (answerBytes (f .answer)); store = l } ≡ judgedOf tables call l
     unfolding judgedOf
-    judged-answered {f} free h =
-        (λ i. record { reply = accepted (answerBytes (h .answered i)); store = l }) ∙ ap replied (law.call-settled tables call l free)
-      where
-        replied : Outcome (List ℕ) (List ℕ) → Outcome (List ℕ) (List ℕ)
-        replied o = record { reply = o .reply; store = l }
+    judged-answered free h =
+        (λ i. record { reply = accepted (answerBytes (h .answered i)); store = l }) ∙ ap unbooked (law.call-settled tables call l free)
 
   -- one booking: by an earlier answer that fits it is the old call; by another it is refused and changes nothing
   module _ (b : WithEarlier Call) (l : List ℕ) where
@@ -227,10 +224,7 @@ module _ (tables : Tables) where
   unfolding judgedOf
   judged-decided call l =
       let one = single-decided (rules tables) call l in
-      record {
-        answers = one .answers;
-        refuses = λ ne. ap (λ (o : Outcome (List ℕ) (List ℕ)). record { reply = o .reply; store = l }) (one .refuses ne);
-      }
+      record { answers = one .answers; refuses = λ ne. ap (unbooked call l) (one .refuses ne) }
 
   -- on a sound ledger no booking is refused by 4
   pub booking-never-four : (b : WithEarlier Call) → bookingRules tables .refusal b 0 ≢ 4

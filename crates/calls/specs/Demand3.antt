@@ -13,7 +13,7 @@ use Rattle.tables.specs.Tables.{Tables}
 use Rattle.ledger.specs.Sound.{bankCount, compartment, soundLedger}
 use Rattle.calls.specs.Call.{Call, refusalOf}
 use Rattle.calls.specs.Rules.{rulesFor, rules}
-use Rattle.calls.specs.Judging.{earlierFits, bookingRules}
+use Rattle.calls.specs.Judging.{earlierFits}
 
 -- of a list of what brings a call with it, and is refused by a number of its own
 module _ (tables : Tables) {A : Type 0} (call : A → Call) (refusal : A → ℕ → ℕ) where

@@ -3,7 +3,6 @@ use native.Mathlib.Omega.{arith}
 use mathlib.Core.Path.{_≡_, refl, sym, _∙_}
 use borrow.Author.Tests.{not-true, not-false}
 use lib.ListN.{length}
-use Rattle.failures.specs.Failures.{isEmpty}
 use Rattle.ledger.specs.Sound.{bankCount, compartmentSize, compartment}
 use Rattle.calls.specs.Call.{foundRows, stepFailures}
 use Rattle.calls.proofs.CallLaws.{indexed, free-small, failures-judged, failures-found, foreseen-failed, answer-booked, enters-by, rows-found}

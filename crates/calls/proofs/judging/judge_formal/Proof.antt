@@ -1,4 +1,4 @@
-use mathlib.Core.Path.{_≡_, refl, ap, sym, _∙_}
+use mathlib.Core.Path.{_≡_, refl}
 use Rattle.fields.specs.Fields.{fieldBy, isWholeIndex}
 use Rattle.tables.specs.Currencies.{foundMoney}
 use Rattle.calls.specs.declared.judging.Formal.{Formal}

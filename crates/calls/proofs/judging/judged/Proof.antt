@@ -1,5 +1,4 @@
-use mathlib.Core.Path.{_≡_, ap, _∙_}
-use Rattle.failures.specs.Failures.{isEmpty}
+use mathlib.Core.Path.{_≡_}
 use Rattle.tables.specs.Tables.{tablesOf}
 use Rattle.calls.specs.Call.{called, formalOf}
 use Rattle.calls.proofs.CallLaws.{accepted, formal-same, judged-ready, foreseen-by}
