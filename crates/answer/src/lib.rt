@@ -1,4 +1,6 @@
 // The answer record: sixteen bytes, written and read at a place of a buffer.
+#![tactic(auto)]
+
 ghost use Rattle.std.specs.Prelude.{◌≡◌, ◌*◌, length};
 ghost use Rattle.answer.specs.Answer.{answer_size, answer_bytes, answer_put, zero_answer, answer_at};
 
@@ -14,7 +16,7 @@ pub const NO_REPORTER: u8 = 255;
 pub const BOOKED: u8 = 0;
 
 // What a call answers to a record.
-#[derive(Drop)]
+#[derive(Clone, Copy)]
 pub struct Answer {
     // The set of failed checks.
     pub failed: Failures,

@@ -1,4 +1,6 @@
 // A booking into a lent compartment: a new live row, and for a cancellation the link with the row that it cancels.
+#![tactic(auto)]
+
 ghost use Rattle.std.specs.Prelude.{◌≡◌, ◌≤◌, ◌<◌, length, get_or};
 ghost use Rattle.ledger.specs.Row.{row_size, number_room};
 ghost use Rattle.ledger.specs.Sound.{row_count, compartment_size};

@@ -1,4 +1,6 @@
 // Dates and times of day.
+#![tactic(auto)]
+
 ghost use Rattle.std.specs.Prelude.{◌≡◌, ◌-◌, ◌<◌, get_or};
 ghost use Rattle.calendar.specs.Calendar.{digits_exactly, two_at, days_in, real_day, real_date, real_minute, real_second};
 

@@ -11,7 +11,7 @@ use crate::admitted;
 use envelope::Opened;
 
 // What a file call returns: the number of its refusal, or its count of records.
-#[derive(Drop)]
+#[derive(Clone, Copy)]
 pub enum Filed {
     Refused(u8),
     Count(usize),

@@ -23,7 +23,7 @@ use sender::Checked;
 const NO_ROW: usize = 65535;
 
 // Places 0 to 60 of a record: the row for which it passes the sender check, 255 for none, and its failures.
-#[derive(Drop)]
+#[derive(Clone, Copy)]
 pub struct Formal {
     pub row: usize,
     pub failed: Failures,
@@ -31,7 +31,7 @@ pub struct Formal {
 
 // What a record comes to on the ledger as it is: its answer; and, where it has no failure, what its booking enters and cancels: where its number lies,
 // its quantity and its side, and the live row that it names, 64 for none.
-#[derive(Drop)]
+#[derive(Clone, Copy)]
 pub(crate) struct Foreseen {
     pub answer: Answer,
     pub number: Place,

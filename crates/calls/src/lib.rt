@@ -1,4 +1,6 @@
 // The single-record call: judging and booking in a row.
+#![tactic(auto)]
+
 ghost use Rattle.std.specs.Prelude.{◌≡◌, ◌+◌, ◌≤◌, ◌<◌, length};
 ghost use Rattle.frame.specs.Isolation.{single};
 ghost use Rattle.frame.specs.Parts.{put};
@@ -25,7 +27,7 @@ pub mod judging;
 const RECORD_LIMIT: usize = 32768;
 
 // What a call returns: the number of its refusal, or its answer.
-#[derive(Drop)]
+#[derive(Clone, Copy)]
 pub enum Replied {
     Refused(u8),
     Answered(Answer),

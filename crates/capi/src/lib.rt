@@ -1,5 +1,7 @@
 // The functions exported for C and Rust: a slice is a pointer and a length. Each returns 0 where it is carried out, else the number of its refusal, and a
 // refused call writes nothing; the field view and the sum are never refused, and return what they tell.
+#![tactic(auto)]
+
 ghost use Rattle.std.specs.Prelude.{[], ◌∷◌, ◌≡◌, ltb, length};
 ghost use Rattle.answer.specs.Answer.{answer_size};
 ghost use Rattle.tables.specs.Tables.{tables_of};

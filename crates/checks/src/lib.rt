@@ -1,4 +1,6 @@
 // Places 7 to 63: a record's fields, and the compartment that it is to be booked in.
+#![tactic(auto)]
+
 ghost use Rattle.std.specs.Prelude.{◌≡◌};
 ghost use Rattle.failures.specs.Failures.{added_from};
 ghost use Rattle.fields.specs.Fields.{field_by};
@@ -13,7 +15,7 @@ use fields::part;
 use ledger::ROW_COUNT;
 
 // What places 61 to 63 find: their failures, the lowest free row, and the live row that the record names.
-#[derive(Drop)]
+#[derive(Clone, Copy)]
 pub struct Booking {
     pub failed: Failures,
     pub free: usize,

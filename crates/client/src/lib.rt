@@ -1,4 +1,6 @@
 // Places 7 to 17 of document 01: the client and the other party of a trade.
+#![tactic(auto)]
+
 ghost use Rattle.std.specs.Prelude.{◌≡◌};
 ghost use Rattle.client.specs.Client.{lacks_form, same_party, client_tests};
 

@@ -1,4 +1,6 @@
 // Decimal numbers of the form Nm,n, and whether they are zero, shown once over m and n.
+#![tactic(auto)]
+
 ghost use Rattle.std.specs.Prelude.{◌≡◌, true, ◌≤◌, ◌<◌, ◌+◌, ◌-◌, ◌*◌, ◌^◌, length};
 ghost use Rattle.text.specs.Class.{is_digit};
 ghost use Rattle.text.specs.Bytes.{all};
@@ -7,14 +9,14 @@ ghost use Rattle.decimal.specs.Decimal.{digits_up_to, digits_value, amount_of, w
 use text::Class;
 
 // A value, in units of the last place behind the comma that the form allows; and whether it is zero.
-#[derive(Drop)]
+#[derive(Clone, Copy)]
 pub struct Amount {
     pub value: u64,
     pub zero: bool,
 }
 
 // What reading a decimal finds.
-#[derive(Drop)]
+#[derive(Clone, Copy)]
 pub enum Decimal {
     Value(Amount),
     Malformed,

@@ -1,18 +1,20 @@
 // Files that are read whole, as far as a buffer has room, and files that are saved whole.
+#![tactic(auto)]
+
 ghost use Rattle.std.specs.Prelude.{◌&&◌, ◌≡◌};
 ghost use Rattle.io.specs.Counts.{IsPrefixLen};
 
 use libc::STDERR_FILENO;
 
 // How many bytes of the buffer a file filled, and whether all of it could be read.
-#[derive(Drop)]
+#[derive(Clone, Copy)]
 pub struct Loaded {
     pub bytes: usize,
     pub readable: bool,
 }
 
 // What became of a save: whether all bytes were written, and whether they then took the name.
-#[derive(Drop)]
+#[derive(Clone, Copy)]
 pub struct Saved {
     pub written: bool,
     pub named: bool,

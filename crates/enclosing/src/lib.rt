@@ -1,4 +1,6 @@
 // Writes an envelope around its records: the head before them, the tail behind them.
+#![tactic(auto)]
+
 ghost use Rattle.std.specs.Prelude.{◌++◌, ◌≡◌};
 ghost use Rattle.page.specs.Page.{page, appended};
 ghost use Rattle.enclosing.specs.Enclosing.{head_text, tail_text};

@@ -1,4 +1,6 @@
 // Reads the envelope of a report file: head, body and tail, piece by piece at places of the file.
+#![tactic(auto)]
+
 ghost use Rattle.std.specs.Prelude.{◌≡◌, ◌+◌, drop};
 ghost use Rattle.frame.specs.Reply.{refusal_in};
 ghost use Rattle.text.specs.declared.Class.TheVariants.{RecordByte};
@@ -20,28 +22,28 @@ pub const CRLF_SIZE: usize = 2;
 const BLOCK_SIZE: usize = 16;
 
 // Where a piece ends, or that it is not there.
-#[derive(Drop)]
+#[derive(Clone, Copy)]
 pub enum Piece {
     EndsAt(usize),
     Missing,
 }
 
 // Where the records of a body begin and end, and how many they are.
-#[derive(Drop)]
+#[derive(Clone, Copy)]
 pub struct Span {
     pub first: usize,
     pub end: usize,
     pub records: usize,
 }
 
-#[derive(Drop)]
+#[derive(Clone, Copy)]
 pub enum Body {
     Counted(Span),
     Broken,
 }
 
 // Where the parts of a head begin, and where its word and the whole head end.
-#[derive(Drop)]
+#[derive(Clone, Copy)]
 pub struct Parts {
     pub sender: usize,
     pub receiver: usize,
@@ -52,14 +54,14 @@ pub struct Parts {
     pub end: usize,
 }
 
-#[derive(Drop)]
+#[derive(Clone, Copy)]
 pub enum Head {
     Read(Parts),
     Unread,
 }
 
 // A report: where its sender, its control word and its records lie in the file, and how many records it has.
-#[derive(Drop)]
+#[derive(Clone, Copy)]
 pub struct Layout {
     pub sender: usize,
     pub sender_end: usize,
@@ -71,7 +73,7 @@ pub struct Layout {
 }
 
 // What opening a file gives: a report, or the number of the refusal.
-#[derive(Drop)]
+#[derive(Clone, Copy)]
 pub enum Opened {
     Report(Layout),
     Refused(u8),

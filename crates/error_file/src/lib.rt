@@ -1,4 +1,6 @@
 // The error file for the sender of a report: its refused records, each with the text of its code.
+#![tactic(auto)]
+
 ghost use Rattle.std.specs.Prelude.{◌≤◌, ◌<◌, ◌+◌, true, ◌&&◌, [], ◌∷◌, ◌≡◌, length};
 ghost use Rattle.frame.specs.Every.{every};
 ghost use Rattle.frame.specs.Reply.{unless, first_of};
@@ -22,7 +24,7 @@ const FIXED_SIZE: usize = enclosing::FIXED_SIZE + 44;
 const LINE_SIZE: usize = 7;
 
 // What the writer returns: the number of its refusal, or the length of the error file.
-#[derive(Drop)]
+#[derive(Clone, Copy)]
 pub enum Wrote {
     Refused(u8),
     Length(usize),

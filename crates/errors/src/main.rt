@@ -1,5 +1,7 @@
 // Writes the error file for the sender of report.edi, by its answers, answers.dat, and by the texts of member.txt and texts.ref, all in the working
 // directory, as errors.edi; then prints its length. Its two arguments are the date and the time that it bears.
+#![tactic(auto)]
+
 ghost use Rattle.io.specs.Counts.{IsPrefixLen};
 
 use disk::Loaded;

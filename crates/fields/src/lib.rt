@@ -1,4 +1,6 @@
 // The fields of a record, as parts of the caller's slice.
+#![tactic(auto)]
+
 ghost use Rattle.std.specs.Prelude.{true, ◌≡◌, ◌+◌, ◌^◌, ◌≤◌, ◌<◌, length, get_or};
 ghost use Rattle.fields.specs.Forms.{letter};
 ghost use Rattle.text.specs.Part.{Lies};
@@ -9,7 +11,7 @@ ghost use Rattle.fields.specs.Fields.{place_in, bytes_at, field_by, field_place,
 const BLOCK_SIZE: usize = 16;
 
 // Where a part lies in a record.
-#[derive(Drop)]
+#[derive(Clone, Copy)]
 pub struct Place {
     pub start: usize,
     pub length: usize,

@@ -1,4 +1,6 @@
 // Runs whole files through the file call. A case is a line: a name, and edits to a sample; a line is printed for each.
+#![tactic(auto)]
+
 mod case;
 mod checksum;
 mod edit;

@@ -1,4 +1,6 @@
 // Bank codes, SWIFT addresses, names and ISINs.
+#![tactic(auto)]
+
 ghost use Rattle.std.specs.Prelude.{◌-◌, ◌%◌, ◌<◌, ◌≤◌, ◌++◌, ◌≡◌, length, get_or};
 ghost use Rattle.text.specs.Bytes.{same};
 ghost use Rattle.text.specs.Text.{bytes};

@@ -1,4 +1,6 @@
 // The ledger: whether it is sound, and what is looked up in a compartment.
+#![tactic(auto)]
+
 ghost use Rattle.std.specs.Prelude.{◌<◌, ◌≤◌, true, ◌&&◌, ◌≡◌, eqb, length, get_or};
 ghost use Rattle.frame.specs.Every.{every};
 ghost use Rattle.text.specs.Bytes.{same};

@@ -1,4 +1,6 @@
 // Text that is put together piece by piece in a lent buffer: a page, and where its text ends.
+#![tactic(auto)]
+
 ghost use Rattle.std.specs.Prelude.{◌≡◌, ◌+◌, ◌%◌, ◌≤◌, length};
 ghost use Rattle.io.specs.Digits.{hex_digit_ascii};
 ghost use Rattle.page.specs.Page.{page, appended};

@@ -1,7 +1,7 @@
 // Calls that are drawn at random.
 
 // What is wrong with a call: its record fails a check, is a stranger's, or the call is refused.
-#[derive(Drop)]
+#[derive(Clone, Copy)]
 pub(crate) enum Flaw {
     Nothing,
     Currency,
@@ -11,7 +11,7 @@ pub(crate) enum Flaw {
     Apostrophe,
 }
 
-#[derive(Drop)]
+#[derive(Clone, Copy)]
 pub(crate) struct Call {
     pub flaw: Flaw,
     pub bank: usize,

@@ -17,7 +17,7 @@ const STRANGER: u8 = 1;
 const REFUSED: u8 = 255;
 
 // What a bank's lone run comes to.
-#[derive(Drop)]
+#[derive(Clone, Copy)]
 struct Tally {
     calls: u64,
     booked: u64,

@@ -1,4 +1,6 @@
 // Replays single-record calls: the worked records, calls that are refused, and a random list against each bank's lone run.
+#![tactic(auto)]
+
 ghost use Rattle.std.specs.Prelude.{◌≡◌, length};
 
 mod arguments;

@@ -1,5 +1,7 @@
 // Books report.edi into ledger.dat, by reporters.ref and currency.ref, all in the working directory. Saves the new ledger as ledger.new, then
 // prints what became of each record. With the argument `answers` it saves the answer records too, as answers.new.
+#![tactic(auto)]
+
 ghost use Rattle.io.specs.Counts.{IsPrefixLen};
 
 use calls::filing::Filed;

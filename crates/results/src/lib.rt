@@ -1,4 +1,6 @@
 // The lines that tell of a file call, its refusal or what became of each record, of an error file, and of records that are judged without booking.
+#![tactic(auto)]
+
 ghost use Rattle.std.specs.Prelude.{◌≡◌};
 ghost use Rattle.page.specs.Page.{page, appended};
 ghost use Rattle.results.specs.Results.{row_text, line_text, lines_text, booked_count, accepted_text, refused_text, written_text};

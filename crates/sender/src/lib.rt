@@ -1,4 +1,6 @@
 // Places 0 to 6, the sender check.
+#![tactic(auto)]
+
 ghost use Rattle.std.specs.Prelude.{◌≡◌};
 ghost use Rattle.failures.specs.Failures.{added_from, no_failure};
 ghost use Rattle.sender.specs.Sender.{reporter_row, reporter_tests, sender_check};
@@ -6,7 +8,7 @@ ghost use Rattle.sender.specs.Sender.{reporter_row, reporter_tests, sender_check
 use failures::Failures;
 
 // What the sender check finds: the reporter's row for which the record passes, or the failures of places 0 to 6.
-#[derive(Drop)]
+#[derive(Clone, Copy)]
 pub enum Checked {
     Passed(usize),
     Failed(Failures),

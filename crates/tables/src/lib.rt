@@ -1,4 +1,6 @@
 // The lent tables: who reports, and which currencies are money.
+#![tactic(auto)]
+
 ghost use Rattle.std.specs.Prelude.{◌*◌, ◌<◌, true, ◌||◌, ◌≡◌, eqb, length};
 ghost use Rattle.frame.specs.Every.{every};
 ghost use Rattle.text.specs.Class.{is_capital};

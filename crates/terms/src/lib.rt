@@ -1,4 +1,6 @@
 // Places 31 to 51, 59 and 60: currency, quantity and price, the capacity, the terms of a derivative, and the last marks.
+#![tactic(auto)]
+
 ghost use Rattle.std.specs.Prelude.{◌≡◌};
 ghost use Rattle.terms.specs.Terms.{is_decimal, is_positive, terms_tests};
 ghost use Rattle.terms.specs.Capacity.{names_own, capacity_tests};

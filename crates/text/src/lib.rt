@@ -1,4 +1,6 @@
 // Bytes and slices of them: classes, comparison, search, parts, numbers as bytes.
+#![tactic(auto)]
+
 ghost use Rattle.std.specs.Prelude.{◌≡◌, ◌≤◌, ◌<◌, ◌^◌, eqb, length, take, drop};
 ghost use Rattle.text.specs.Class.{belongs_to, is_digit, is_capital, is_word_byte, is_record_byte, is_text_byte, is_zero};
 ghost use Rattle.text.specs.Bytes.{all as all_of, same as same_bytes, position_of};
@@ -10,7 +12,7 @@ ghost use Rattle.text.specs.Number.{little_endian, big_endian, low_bytes, number
 const ZERO_BLOCK: usize = 1024;
 
 // A class of bytes.
-#[derive(Drop)]
+#[derive(Clone, Copy)]
 pub enum Class {
     Digit,
     Capital,
@@ -25,7 +27,7 @@ pub enum Class {
 }
 
 // How two texts stand to each other in the order of their bytes, the first that differs deciding; a beginning comes before the whole.
-#[derive(Drop)]
+#[derive(Clone, Copy)]
 pub enum Order {
     Less,
     Same,

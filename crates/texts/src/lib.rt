@@ -1,4 +1,6 @@
 // The lists of texts: their form, an index of them, and the text of a code as a part of the list that it comes from.
+#![tactic(auto)]
+
 ghost use Rattle.std.specs.Prelude.{◌-◌, ◌<◌, ◌≤◌, true, ◌≡◌, length, take};
 ghost use Rattle.frame.specs.Every.{every};
 ghost use Rattle.text.specs.Class.{is_digit, is_text_byte};

@@ -1,4 +1,6 @@
 // Places 18 to 30 of document 01: the trade and its instrument.
+#![tactic(auto)]
+
 ghost use Rattle.std.specs.Prelude.{◌≡◌};
 ghost use Rattle.trade.specs.Trade.{venue_form, trade_tests};
 ghost use Rattle.trade.specs.Instrument.{instrument_tests};

@@ -1,5 +1,7 @@
 // Judges records without booking them: each record of standard input, one a line, as if the sender that is the argument reported it on ledger.dat,
 // by reporters.ref and currency.ref, all in the working directory. Prints what would become of each, then how many would be booked. Writes no file.
+#![tactic(auto)]
+
 ghost use Rattle.std.specs.Prelude.{◌≡◌, ◌+◌, ◌≤◌, ◌<◌, length};
 ghost use Rattle.io.specs.Counts.{IsPrefixLen};
 
@@ -26,7 +28,7 @@ const MOST_READS: u64 = 100000000000000;
 
 // How far a trial has come: the bytes of a line whose end is not read yet, the records judged, those of them that would be booked, and whether
 // all their lines could be printed.
-#[derive(Drop)]
+#[derive(Clone, Copy)]
 struct Progress {
     bytes: usize,
     number: u64,

@@ -1,10 +1,12 @@
 // Field 33 of a record, the underlying of a derivative: places 52 to 58 of document 01.
+#![tactic(auto)]
+
 ghost use Rattle.std.specs.Prelude.{◌≡◌};
 ghost use Rattle.underlying.specs.Underlying.{asks_underlying, underlying_tests};
 ghost use Rattle.underlying.specs.Cases.{theme_of, present_of, underlying_of, first_letter, is_lacking, tests_of};
 
 // The six words that may follow T.
-#[derive(Drop)]
+#[derive(Clone, Copy)]
 pub enum Theme {
     Basket,
     Commodity,
@@ -15,7 +17,7 @@ pub enum Theme {
 }
 
 // Field 33 by its first letter.
-#[derive(Drop)]
+#[derive(Clone, Copy)]
 pub enum Underlying {
     // Blank, or over 41 bytes.
     Missing,
@@ -36,7 +38,7 @@ pub enum Underlying {
 }
 
 // What places 52 to 58 ask of a derivative's record.
-#[derive(Drop)]
+#[derive(Clone, Copy)]
 pub struct Derivative {
     // How the instrument is named: the byte of field 19; 0 where that field isn't one byte.
     pub naming: u8,

@@ -1,4 +1,6 @@
 // Runs vectors: prints a line for each line of its files.
+#![tactic(auto)]
+
 mod bookings;
 mod identifiers;
 mod lent;
@@ -9,7 +11,7 @@ mod view;
 use disk::load_or_fail;
 
 // What the lines of a file are.
-#[derive(Drop)]
+#[derive(Clone, Copy)]
 enum Kind {
     Isin,
     Swift,

@@ -1,4 +1,6 @@
 // The parts of a line of test cases, and the numbers and bytes that they stand for.
+#![tactic(auto)]
+
 ghost use Rattle.std.specs.Prelude.{◌≡◌, ◌<◌};
 ghost use Rattle.text.specs.Part.{Lies};
 ghost use Rattle.page.specs.Page.{page, appended};
