@@ -1,6 +1,6 @@
 -- The classes of bytes that the forms of documents 01 and 02 are made of.
 -- Assumes nothing.
-use Rattle.std.specs.Prelude.{ℕ, Bool, true, false, ◌&&◌, ◌||◌, not, leb, ltb, eqb}
+use Rattle.std.specs.Prelude.{ℕ, Bool, ◌&&◌, ◌||◌, not, leb, ltb, eqb}
 use Prim.Native.Char.{code}
 use Rattle.text.specs.declared.Class.{Class}
 use Rattle.text.specs.declared.Class.TheVariants.{Digit, Capital, CapitalOrDigit, WordByte, RecordByte, AboveApostrophe, BodyByte, Space, Zero, TextByte}

@@ -1,0 +1,41 @@
+use Rattle.std.proofs.Common.{List, ℕ}
+use borrow.Author.Rules.{rules}
+use Prim.Native.Nat.{◌+◌, ◌*◌, ◌^◌, ◌≤◌, ◌<◌}
+use native.Mathlib.Omega.{arith}
+use mathlib.Core.Path.{ap, ◌∙◌}
+use lib.Dec.{lit<}
+use lib.ListN.{length, get_or, length-take}
+use Rattle.text.specs.Number.{big_endian}
+use Rattle.text.proofs.NumberLaws.{digit_more, below_power}
+use Rattle.text.proofs.WordLaws.{big_none, big_more, big_end}
+use Rattle.text.proofs.big_endian.Goals as goal
+
+-- with the next byte the number is below the next power, which a word holds
+more : (w : List ℕ) (number i : ℕ) → get_or w i 0 < 256 → number < 256 ^ i → number * 256 + get_or w i 0 < 256 ^ (i + 1)
+more w number i byte h = digit_more 256 number (get_or w i 0) i h byte
+
+fits : (w : List ℕ) (number i : ℕ) → get_or w i 0 < 256 → number < 256 ^ i → i < length w → length w ≤ 8
+    → number * 256 + get_or w i 0 < 2 ^ 64
+fits w number i byte h inside short = below_power 255 {n = 8} (more w number i byte h) (omega arith)
+
+pub loop-i-init : goal.loop-i-init
+loop-i-init c =
+    let short : length c.front-w.result.now ≤ 8 = omega (arith, ap length c.front-w.ensures.bytes, length-take 8 c.args.s.now) in
+    (search rules, short, big_none, lit< tt)
+
+pub overflow_cast-b : goal.overflow_cast-b
+overflow_cast-b c = omega (arith, c.type_inv.w c.loop-i.i)
+
+pub overflow_mul-number : goal.overflow_mul-number
+overflow_mul-number c = let l = c.loop-i in record { fits = omega (arith, (fits _ l.number l.i (c.type_inv.w l.i).fits l.invariant.3 c.loop-i-test.true l.invariant.1)) }
+
+pub overflow_add-number : goal.overflow_add-number
+overflow_add-number c = let l = c.loop-i in record { fits = omega (arith, (fits _ l.number l.i (c.type_inv.w l.i).fits l.invariant.3 c.loop-i-test.true l.invariant.1)) }
+
+pub loop-i-preserved : goal.loop-i-preserved
+loop-i-preserved c =
+    let l = c.loop-i in
+    (search rules, l.invariant.1, big_more _ _ c.loop-i-test.true l.invariant.2, more _ l.number l.i (c.type_inv.w l.i).fits l.invariant.3)
+
+pub returns : goal.returns
+returns c = big_end _ _ c.loop-i-test.false c.loop-i.invariant.2 ∙ ap big_endian c.front-w.ensures.bytes
