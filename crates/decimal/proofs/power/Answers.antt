@@ -8,8 +8,7 @@ use lib.ListN.{get_or}
 use Rattle.frame.specs.Every.{every}
 use Rattle.frame.proofs.EveryLaws.{every_at}
 use borrow.Author.Rules.{rules}
-use Rattle.decimal.proofs.power.Statement.{statement}
-use Rattle.decimal.proofs.power.Tie as tie
+use Rattle.decimal.proofs.power.Goals as goal
 
 powers : List ℕ
 powers =
@@ -21,15 +20,6 @@ powers =
 right : ℕ → Bool
 right k = eqb (get_or powers k 0) (10 ^ k)
 
-mul-result : tie.Need-overflow-mul-result
-mul-result c = search rules
-
-array-read-result : tie.Need-array-read-result
-array-read-result c = search rules
-
-returns : tie.Need-returns
+pub returns : goal.returns
 unfolding powers right every
 returns c = eqb-true _ (10 ^ c.args.n) (every_at 20 right refl c.args.n (search rules))
-
-pub power-spec : {M : Type 1} → statement M
-power-spec = tie.close (tie.spec mul-result array-read-result returns)
