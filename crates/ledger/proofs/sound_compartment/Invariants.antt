@@ -1,0 +1,18 @@
+use Prim.Native.Nat.{◌≤◌, ◌-◌}
+use mathlib.Core.Bool.{true}
+use mathlib.Core.Path.{◌≡◌}
+use lib.ListN.{length}
+use Rattle.frame.specs.Every.{every}
+use Rattle.ledger.specs.Row.{filled_row}
+use Rattle.ledger.specs.Sound.{rows_of, row_count, compartment_size, sound_row}
+use Rattle.ledger.specs.Slots.{slot_count}
+use Rattle.ledger.proofs.SlotLaws.{Marked}
+use Rattle.ledger.proofs.sound_compartment.Given as goal
+
+abbrev pub invariant-loop-k : goal.invariant-loop-k
+invariant-loop-k l =
+    (l.k ≤ row_count) × (length l.c ≡ compartment_size) × (every l.k (sound_row (rows_of l.c)) ≡ true) × (every l.k (λ j. filled_row (rows_of l.c j)) ≡ true)
+    × Marked l.seen l.c l.k × (length l.seen ≡ slot_count)
+
+abbrev pub decreases-loop-k : goal.decreases-loop-k
+decreases-loop-k l = row_count - l.k
