@@ -19,7 +19,7 @@ use Rattle.page.specs.Page.{Page, page, typed, appended, write_outcome, wrote_in
 pub appended_both : (p : Page) (s t : List ℕ) → appended (appended p s) t ≡ appended p (s ++ t)
 unfolding appended
 appended_both p [] t = refl
-appended_both p (b ∷ s) t = appended_both _ s t
+appended_both p (b ∷ s) t = appended_both (typed p b) s t
 
 -- a text, and one more behind it
 pub appended_on : (p : Page) (s t : List ℕ) {q r : Page} → q ≡ appended p s → r ≡ appended q t → r ≡ appended p (s ++ t)
