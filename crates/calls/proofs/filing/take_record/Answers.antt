@@ -1,0 +1,23 @@
+use Prim.Native.Nat.{◌+◌, ◌≤◌}
+use native.Mathlib.Omega.{arith}
+use lib.ListN.{length}
+use Rattle.calls.proofs.TakingLaws.{end_within, lent_admitted, record_taken}
+use Rattle.calls.proofs.filing.take_record.Goals as goal
+
+pub slice_bounds-admitted-end : goal.slice_bounds-admitted-end
+slice_bounds-admitted-end c =
+    let within : c.record_end-end.result + 2 ≤ length c.args.body.now = end_within _ _ _ _ _ _ _ c.requires c.record_end-end.ensures in
+    omega (arith, within)
+
+pub admitted-a-requires : goal.admitted-a-requires
+admitted-a-requires c = lent_admitted _ _ _ _ _ _ _ c.requires c.record_end-end.ensures
+
+pub overflow_add-result : goal.overflow_add-result
+overflow_add-result c =
+    let within : c.record_end-end.result + 2 ≤ length c.args.body.now = end_within _ _ _ _ _ _ _ c.requires c.record_end-end.ensures in
+    omega (arith, within)
+
+pub returns : goal.returns
+returns c =
+    record_taken _ _ _ _ _ _ _ c.requires c.record_end-end.ensures _ c.admitted-a.ensures
+    c.write.ensures

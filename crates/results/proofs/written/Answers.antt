@@ -1,0 +1,10 @@
+use mathlib.Core.Path.{refl}
+use Rattle.page.proofs.PageLaws.{appended_both}
+use Rattle.results.specs.Results.{written_text}
+use Rattle.results.proofs.written.Goals as goal
+
+-- the pieces of the text, from the last to the first
+pub returns : goal.returns
+unfolding written_text
+returns c =
+    rw (c.append.ensures, c.append_number-end.ensures, c.append-end.ensures) (simp appended_both refl)
