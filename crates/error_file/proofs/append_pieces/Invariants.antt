@@ -1,0 +1,12 @@
+use Prim.Native.Nat.{◌-◌}
+use lib.ListN.{length}
+use Rattle.error_file.specs.Steps.{Indexed}
+use Rattle.error_file.proofs.PieceLaws.{Writing}
+use Rattle.error_file.proofs.append_pieces.Given as goal
+
+abbrev pub invariant-loop-at : goal.invariant-loop-at
+invariant-loop-at l =
+    Indexed l.member l.ours l.rows × Writing l.member l.ours l.answers l.body l.initial.out l.start l.out l.end l.at l.k
+
+abbrev pub decreases-loop-at : goal.decreases-loop-at
+decreases-loop-at l = length l.body - l.at
