@@ -17,7 +17,7 @@ test:
 	@bash scripts/test
 
 lib:
-	@rt staticlib capi
+	@bash scripts/build lib
 
 bench: lib
 	@bash scripts/bench

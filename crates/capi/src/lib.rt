@@ -1,4 +1,4 @@
-// The functions exported for C and Rust: a slice is a pointer and a length. Each returns 0 where it is carried out, else the number of its refusal, and a
+// What the functions exported for C and Rust do; the crate capi_c exports them. Each returns 0 where it is carried out, else the number of its refusal, and a
 // refused call writes nothing; the field view and the sum are never refused, and return what they tell.
 #![tactic(auto)]
 
@@ -47,8 +47,7 @@ fn tell(replied: Replied, answer: &mut [u8]) -> u64
 }
 
 // The single-record call: the answer's sixteen bytes at the start of the answer buffer.
-#[unsafe(no_mangle)]
-pub extern "C" fn roselhanda_record<'a>(
+pub fn roselhanda_record<'a>(
     reporters: &'a [u8],
     currencies: &'a [u8],
     ledger: &mut [u8],
@@ -68,8 +67,7 @@ pub extern "C" fn roselhanda_record<'a>(
 }
 
 // The file call: sixteen bytes a record from the start of the answer buffer, and in the lent word the count of records.
-#[unsafe(no_mangle)]
-pub extern "C" fn roselhanda_file<'a>(
+pub fn roselhanda_file<'a>(
     file: &'a [u8],
     reporters: &'a [u8],
     currencies: &'a [u8],
@@ -91,8 +89,7 @@ pub extern "C" fn roselhanda_file<'a>(
 }
 
 // Judging: the answer's sixteen bytes at the start of the answer buffer. The ledger is lent for reading only.
-#[unsafe(no_mangle)]
-pub extern "C" fn roselhanda_judge<'a>(
+pub fn roselhanda_judge<'a>(
     reporters: &'a [u8],
     currencies: &'a [u8],
     ledger: &'a [u8],
@@ -112,8 +109,7 @@ pub extern "C" fn roselhanda_judge<'a>(
 }
 
 // Booking by an earlier answer: the answer's sixteen bytes at the start of the answer buffer.
-#[unsafe(no_mangle)]
-pub extern "C" fn roselhanda_book<'a>(
+pub fn roselhanda_book<'a>(
     reporters: &'a [u8],
     currencies: &'a [u8],
     ledger: &mut [u8],
@@ -136,8 +132,7 @@ pub extern "C" fn roselhanda_book<'a>(
 }
 
 // The field view: where field n of the record starts, and in the lent word how long it is.
-#[unsafe(no_mangle)]
-pub extern "C" fn roselhanda_field(record: &[u8], n: u64, length: &mut u64) -> u64
+pub fn roselhanda_field(record: &[u8], n: u64, length: &mut u64) -> u64
     ensures { field_numbers result length.new ≡ field_export «record».now n }
 {
     let p = fields::field_place(record, n as usize);
@@ -146,8 +141,7 @@ pub extern "C" fn roselhanda_field(record: &[u8], n: u64, length: &mut u64) -> u
 }
 
 // The error file: from the start of out, and in the lent word how long it is.
-#[unsafe(no_mangle)]
-pub extern "C" fn roselhanda_error_file<'a>(
+pub fn roselhanda_error_file<'a>(
     report: &'a [u8],
     answers: &'a [u8],
     member_texts: &'a [u8],
@@ -171,8 +165,7 @@ pub extern "C" fn roselhanda_error_file<'a>(
 }
 
 // The sum over an ISIN without its check digit, or over any text, modulo 10.
-#[unsafe(no_mangle)]
-pub extern "C" fn roselhanda_isin_sum(text: &[u8]) -> u64
+pub fn roselhanda_isin_sum(text: &[u8]) -> u64
     ensures { result ≡ sum_export text.now }
 {
     identifier::letter_sum(text)
