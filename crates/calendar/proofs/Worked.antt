@@ -1,7 +1,7 @@
 -- The worked dates of document 01, as one statement over a list.
 -- Assumes nothing.
-use mathlib.Core.Bool.{Bool, true, false}
-use mathlib.Core.List.{List, [], ◌∷◌, map}
+use mathlib.Core.Bool.{true, false}
+use mathlib.Core.List.{[], ◌∷◌, map}
 use mathlib.Core.Path.{◌≡◌, refl}
 use Prim.Native.String.{String}
 use Rattle.text.specs.Bytes.{all}

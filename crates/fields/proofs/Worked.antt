@@ -1,8 +1,7 @@
 -- The fields of the worked record R1 of document 01.
 -- Assumes nothing.
-use mathlib.Core.List.{List, [], ◌∷◌, map}
+use mathlib.Core.List.{[], ◌∷◌, map}
 use mathlib.Core.Path.{◌≡◌, refl}
-use Prim.Native.Nat.{ℕ}
 use Rattle.text.specs.Text.{bytes}
 use Rattle.fields.specs.Worked.{worked_record, r1}
 use Rattle.fields.specs.Fields.{semicolons_from, is_whole, field_start, field_end, field_place, field_of}

@@ -2,7 +2,6 @@ use borrow.Author.Rules.{rules}
 use borrow.Author.Count.{below_none}
 use native.Mathlib.Omega.{arith}
 use mathlib.Core.Path.{sym, ◌∙◌}
-use Prim.Native.Nat.{◌-◌}
 use lib.ListN.{length-set}
 use lib.Seq.{ext_get_or}
 use Rattle.frame.proofs.StoreLaws.{store_more}

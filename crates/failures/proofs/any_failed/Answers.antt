@@ -1,5 +1,4 @@
 use borrow.Author.Rules.{rules}
-use Prim.Native.Nat.{◌-◌}
 use mathlib.Core.Path.{refl}
 use Rattle.failures.proofs.FailureLaws.{any_go, any_end}
 use Rattle.failures.proofs.any_failed.Goals as goal

@@ -1,5 +1,4 @@
 use borrow.Author.Rules.{rules}
-use Prim.Native.Nat.{◌-◌}
 use mathlib.Core.Path.{sym}
 use Rattle.frame.proofs.EveryLaws.{every_none}
 use Rattle.failures.specs.Codes.{codes, code_at}

@@ -1,4 +1,3 @@
-use Prim.Native.Nat.{◌-◌}
 use Rattle.text.proofs.SearchLaws.{left_all, left_none, left_hit, left_above, left_under}
 use Rattle.tables.specs.Currencies.{currency_at, found_money}
 use Rattle.tables.proofs.is_money.Goals as goal

@@ -1,5 +1,3 @@
-use Prim.Native.Nat.{◌-◌}
-use mathlib.Core.Bool.{true}
 use mathlib.Core.Path.{sym, ◌∙◌}
 use Rattle.frame.proofs.EveryLaws.{every_none, every_more, every_done, every_broke}
 use borrow.Author.Rules.{rules}

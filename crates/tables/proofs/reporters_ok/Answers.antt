@@ -1,7 +1,6 @@
 use mathlib.Core.Path.{ap}
 use mathlib.Core.Bool.{not}
-use Prim.Native.Nat.{◌*◌, ◌-◌}
-use mathlib.Core.Bool.{true}
+use Prim.Native.Nat.{◌*◌}
 use mathlib.Core.Path.{sym, ◌∙◌}
 use Rattle.frame.proofs.EveryLaws.{every_none, every_more}
 use Rattle.tables.specs.Reporters.{reporter_limit, reporter_size, reporter_ok, reporters_ok}
