@@ -1,9 +1,10 @@
-// Files that are read whole, as far as a buffer has room, and files that are saved whole.
+// Files that are read whole, as far as a buffer has room, and files that are saved whole; a program's arguments, and what it says of a failure.
 #![tactic(auto)]
 
 ghost use Rattle.std.specs.Prelude.{◌&&◌, ◌≡◌, IfOk};
 ghost use Rattle.io.specs.Counts.{IsPrefixLen};
 
+use std::env::{Env, FillError};
 use std::fmt::{Display, Formatter};
 use std::fs::{OpenFile, OpenOptions};
 use std::io::{Cursor, Error, ErrorKind, Read, Result, Write};
@@ -246,4 +247,23 @@ pub fn save_or_complain(
         remove(rt, temporary);
     }
     saved
+}
+
+// Whether a program was started with an argument of that number; its own name is number 0.
+pub fn is_given(rt: &impl Env, i: usize) -> bool {
+    let mut start = [0u8; 1];
+    match rt.arg(i, &mut start) {
+        Err(FillError::NotPresent) => false,
+        _ => true,
+    }
+}
+
+// Puts an argument at the start of a buffer, and answers its length; 0 where it is missing, or longer than the buffer.
+pub fn argument(rt: &impl Env, i: usize, buffer: &mut [u8]) -> usize
+    ensures { IsPrefixLen result buffer.new }
+{
+    match rt.arg(i, buffer) {
+        Ok(n) => n,
+        Err(_) => 0,
+    }
 }
