@@ -1,10 +1,9 @@
-// Files that are read whole, as far as a buffer has room, and files that are saved whole; a program's arguments, and what it says of a failure.
+// Files that are read whole, as far as a buffer has room, and files that are saved whole.
 #![tactic(auto)]
 
 ghost use Rattle.std.specs.Prelude.{◌&&◌, ◌≡◌, IfOk};
 ghost use Rattle.io.specs.Counts.{IsPrefixLen};
 
-use std::env::{Env, FillError};
 use std::fmt::{Display, Formatter};
 use std::fs::{OpenFile, OpenOptions};
 use std::io::{Cursor, Error, ErrorKind, Read, Result, Write};
@@ -48,10 +47,10 @@ impl Display for Shown<'_> {
     }
 }
 
-// Why a call failed, in the system's words: the library's own text of it, without the number that stands behind them there.
+// Why a call failed, as text in the system's words: the library's text of the error, without the number that it puts behind them.
 #[derive(Clone, Copy)]
-struct Reason {
-    error: Error,
+pub struct Reason {
+    pub error: Error,
 }
 
 impl Display for Reason {
@@ -126,7 +125,7 @@ pub fn load(rt: &impl Files, path: &[u8], buffer: &mut [u8]) -> Loaded
 }
 
 // Says on standard error what failed, as the caller names it, and why.
-pub fn fail(rt: &impl Eprint, what: &[u8], why: Error) {
+fn fail(rt: &impl Eprint, what: &[u8], why: Error) {
     let _ = eprintln!(rt; "{}: {}", Shown { bytes: what }, Reason { error: why });
 }
 
@@ -159,7 +158,7 @@ fn sync_folder(rt: &impl Files) {
 }
 
 // Removes a file, where it is there.
-pub fn remove(rt: &impl Files, path: &[u8]) {
+fn remove(rt: &impl Files, path: &[u8]) {
     if let Ok(text) = text_of(path) {
         let _ = fs::remove_file(rt, text);
     }
@@ -247,23 +246,4 @@ pub fn save_or_complain(
         remove(rt, temporary);
     }
     saved
-}
-
-// Whether a program was started with an argument of that number; its own name is number 0.
-pub fn is_given(rt: &impl Env, i: usize) -> bool {
-    let mut start = [0u8; 1];
-    match rt.arg(i, &mut start) {
-        Err(FillError::NotPresent) => false,
-        _ => true,
-    }
-}
-
-// Puts an argument at the start of a buffer, and answers its length; 0 where it is missing, or longer than the buffer.
-pub fn argument(rt: &impl Env, i: usize, buffer: &mut [u8]) -> usize
-    ensures { IsPrefixLen result buffer.new }
-{
-    match rt.arg(i, buffer) {
-        Ok(n) => n,
-        Err(_) => 0,
-    }
 }

@@ -4,8 +4,9 @@
 
 ghost use Rattle.io.specs.Counts.{IsPrefixLen};
 
-use disk::Loaded;
+use disk::{Loaded, Reason};
 use error_file::Wrote;
+use std::env::{Env, FillError};
 use std::rt::Files;
 
 // Room for a report, for the answers to 1,024 records, and for 10,000 rows of texts, each with a byte more, so that what is too long is refused, and
@@ -43,7 +44,7 @@ fn save(rt: &(impl Files + Eprint), file: &[u8]) -> bool {
 // Prints a text, and says so where it cannot be printed.
 fn print(rt: &(impl Print + Eprint), text: &[u8]) {
     if let Err(why) = rt.write_all(text) {
-        disk::fail(rt, b"standard output", why);
+        let _ = eprintln!(rt; "standard output: {}", Reason { error: why });
     }
 }
 
@@ -96,9 +97,18 @@ fn read_and_run(rt: &(impl Files + Print + Eprint), date: &[u8], time: &[u8]) {
     }
 }
 
+// Whether there is an argument of that number; the program's own name is number 0.
+fn is_given(rt: &impl Env, i: usize) -> bool {
+    let mut start = [0u8; 1];
+    match rt.arg(i, &mut start) {
+        Err(FillError::NotPresent) => false,
+        _ => true,
+    }
+}
+
 // Takes the date and the time from its arguments. One that is longer than a date or a time is taken for an empty one, and so refused as it has to be.
 fn main(rt: HostRuntime) {
-    if !disk::is_given(&rt, 2) | disk::is_given(&rt, 3) {
+    if !is_given(&rt, 2) | is_given(&rt, 3) {
         let _ = eprintln!(rt;
             "no error file was written: say its date and its time, errors YYYYMMDD HHMM"
         );
@@ -106,7 +116,7 @@ fn main(rt: HostRuntime) {
     }
     let mut date = [0u8; 8];
     let mut time = [0u8; 4];
-    let day = disk::argument(&rt, 1, &mut date);
-    let minute = disk::argument(&rt, 2, &mut time);
+    let day = rt.arg(1, &mut date).unwrap_or(0);
+    let minute = rt.arg(2, &mut time).unwrap_or(0);
     read_and_run(&rt, text::front(&date, day), text::front(&time, minute));
 }

@@ -5,8 +5,9 @@
 ghost use Rattle.io.specs.Counts.{IsPrefixLen};
 
 use calls::filing::Filed;
-use disk::Loaded;
-use std::env::Env;
+use disk::{Loaded, Reason};
+use std::env::{Env, FillError};
+use std::fs;
 use std::rt::Files;
 
 // Room for a report, for 16 reporters, 512 currencies and a ledger, each with a byte more, so that what is too long is refused, and never cut.
@@ -47,7 +48,7 @@ fn save_all(rt: &(impl Files + Eprint), ledger: &[u8], answers: &[u8], wanted: b
         return true;
     }
     if wanted {
-        disk::remove(rt, b"answers.new");
+        let _ = fs::remove_file(rt, "answers.new");
     }
     false
 }
@@ -55,7 +56,7 @@ fn save_all(rt: &(impl Files + Eprint), ledger: &[u8], answers: &[u8], wanted: b
 // Prints a text, and says so where it cannot be printed.
 fn print(rt: &(impl Print + Eprint), text: &[u8]) {
     if let Err(why) = rt.write_all(text) {
-        disk::fail(rt, b"standard output", why);
+        let _ = eprintln!(rt; "standard output: {}", Reason { error: why });
     }
 }
 
@@ -115,16 +116,25 @@ fn read_and_run(rt: &(impl Files + Print + Eprint), wanted: bool) {
     }
 }
 
+// Whether there is an argument of that number; the program's own name is number 0.
+fn is_given(rt: &impl Env, i: usize) -> bool {
+    let mut start = [0u8; 1];
+    match rt.arg(i, &mut start) {
+        Err(FillError::NotPresent) => false,
+        _ => true,
+    }
+}
+
 // Whether the only argument is `answers`.
 fn asks_for_answers(rt: &impl Env) -> bool {
     let mut word = [0u8; 8];
-    let n = disk::argument(rt, 1, &mut word);
-    !disk::is_given(rt, 2) & text::same(text::front(&word, n), b"answers")
+    let n = rt.arg(1, &mut word).unwrap_or(0);
+    !is_given(rt, 2) & text::same(text::front(&word, n), b"answers")
 }
 
 // Without an argument books the report; with `answers` saves its answers too; with any other does nothing, and says what it knows.
 fn main(rt: HostRuntime) {
-    if !disk::is_given(&rt, 1) {
+    if !is_given(&rt, 1) {
         return read_and_run(&rt, false);
     }
     if asks_for_answers(&rt) {

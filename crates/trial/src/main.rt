@@ -7,7 +7,8 @@ ghost use Rattle.io.specs.Counts.{IsPrefixLen};
 
 use answer::BOOKED;
 use calls::Replied;
-use disk::Loaded;
+use disk::{Loaded, Reason};
+use std::env::{Env, FillError};
 use std::io::{Input, Read};
 use std::rt::Files;
 
@@ -52,7 +53,7 @@ fn print(rt: &(impl Print + Eprint), text: &[u8]) -> bool {
     match rt.write_all(text) {
         Ok(()) => true,
         Err(why) => {
-            disk::fail(rt, b"standard output", why);
+            let _ = eprintln!(rt; "standard output: {}", Reason { error: why });
             false
         }
     }
@@ -208,7 +209,7 @@ fn read_on(rt: &impl Eprint, input: &mut impl Read, chunk: &mut [u8]) -> Loaded
             why: None,
         },
         Err(why) => {
-            disk::fail(rt, b"standard input", why);
+            let _ = eprintln!(rt; "standard input: {}", Reason { error: why });
             Loaded {
                 bytes: 0,
                 readable: false,
@@ -298,13 +299,22 @@ fn read_and_run(rt: &(impl Files + Input + Print + Eprint), sender: &[u8]) {
     }
 }
 
+// Whether there is an argument of that number; the program's own name is number 0.
+fn is_given(rt: &impl Env, i: usize) -> bool {
+    let mut start = [0u8; 1];
+    match rt.arg(i, &mut start) {
+        Err(FillError::NotPresent) => false,
+        _ => true,
+    }
+}
+
 // Takes the sender from its argument. One that is longer than a mailbox is taken for an empty one, and so refused as it has to be.
 fn main(rt: HostRuntime) {
-    if !disk::is_given(&rt, 1) | disk::is_given(&rt, 2) {
+    if !is_given(&rt, 1) | is_given(&rt, 2) {
         let _ = eprintln!(rt; "nothing was judged: say the sender, trial SENDER");
         return;
     }
     let mut sender = [0u8; 8];
-    let n = disk::argument(&rt, 1, &mut sender);
+    let n = rt.arg(1, &mut sender).unwrap_or(0);
     read_and_run(&rt, text::front(&sender, n));
 }
