@@ -6,9 +6,14 @@ mod checksum;
 mod edit;
 
 use disk::load_or_fail;
+use std::io;
+use std::rt::Files;
 
 // The bytes of the answer buffer, where a case says nothing else: as many as 1,025 answers take.
 const ANSWER_ROOM: usize = 1025 * answer::SIZE;
+
+// Room for the cases of a file.
+const CASES_ROOM: usize = 65536;
 
 // Fills a buffer with a pattern, so that a byte that is cleared or moved shows.
 fn fill(buffer: &mut [u8]) {
@@ -20,60 +25,64 @@ fn fill(buffer: &mut [u8]) {
 }
 
 // Runs the cases of a file, one a line.
-fn lines<'a>(
-    cases: &'a [u8],
-    file: &'a [u8],
-    reporters: &'a [u8],
-    currencies: &'a [u8],
-    ledger: &'a [u8],
-    answers: &'a [u8],
-) {
+fn lines(
+    rt: &impl Print,
+    cases: &[u8],
+    file: &[u8],
+    reporters: &[u8],
+    currencies: &[u8],
+    ledger: &[u8],
+    answers: &[u8],
+) -> io::Result<()> {
     let mut at = 0;
     while at < cases.len() {
         case::run(
+            rt,
             words::before(text::rest(cases, at), b'\n'),
             file,
             reporters,
             currencies,
             ledger,
             answers,
-        );
+        )?;
         at = words::next(cases, at, b'\n');
     }
+    Ok(())
 }
 
 // Runs the cases of the file of that name, on the sample of data/.
-fn run(name: &[u8]) {
-    let mut cases = io::large_buffer();
+fn run(rt: &(impl Files + Print + Eprint), name: &[u8]) -> io::Result<()> {
+    let mut cases = [0u8; CASES_ROOM];
     let mut file = [0u8; 1024];
     let mut table = [0u8; 512];
     let mut list = [0u8; 1536];
     let mut ledger = [0u8; 32768];
     let mut answers = [0u8; ANSWER_ROOM];
-    let k = load_or_fail(name, &mut cases);
-    let n = load_or_fail(b"report.edi", &mut file);
-    let rows = load_or_fail(b"reporters.ref", &mut table);
-    let codes = load_or_fail(b"currency.ref", &mut list);
-    let m = load_or_fail(b"ledger.dat", &mut ledger);
+    let k = load_or_fail(rt, name, &mut cases);
+    let n = load_or_fail(rt, b"report.edi", &mut file);
+    let rows = load_or_fail(rt, b"reporters.ref", &mut table);
+    let codes = load_or_fail(rt, b"currency.ref", &mut list);
+    let m = load_or_fail(rt, b"ledger.dat", &mut ledger);
     fill(&mut answers);
     lines(
+        rt,
         text::front(&cases, k),
         text::front(&file, n),
         text::front(&table, rows),
         text::front(&list, codes),
         text::front(&ledger, m),
         &answers,
-    );
+    )
 }
 
 // Runs all files of cases.
-fn main() {
-    run(b"cuts.txt");
-    run(b"edges.txt");
-    run(b"forms.txt");
-    run(b"bodies.txt");
-    run(b"limits.txt");
-    run(b"lent.txt");
-    run(b"order.txt");
-    run(b"records.txt");
+fn main(rt: HostRuntime) -> io::Result<()> {
+    run(&rt, b"cuts.txt")?;
+    run(&rt, b"edges.txt")?;
+    run(&rt, b"forms.txt")?;
+    run(&rt, b"bodies.txt")?;
+    run(&rt, b"limits.txt")?;
+    run(&rt, b"lent.txt")?;
+    run(&rt, b"order.txt")?;
+    run(&rt, b"records.txt")
 }

@@ -6,7 +6,8 @@ use answer::{Answer, BOOKED};
 use calls::Replied;
 use failures::Failures;
 use ledger::COMPARTMENT_SIZE;
-use libc::STDOUT_FILENO;
+use std::io;
+use std::rt::Files;
 
 // How many calls are drawn.
 const CALLS: usize = 4096;
@@ -139,27 +140,34 @@ fn compartment(ledger: &[u8], bank: usize) -> &[u8] {
 }
 
 // Runs a bank alone, and prints whether its answers and its compartment are those of the list.
-fn compare<'a>(reporters: &'a [u8], ledger: &'a [u8], answers: &'a [u8], bank: usize) {
+fn compare(
+    rt: &impl Print,
+    reporters: &[u8],
+    ledger: &[u8],
+    answers: &[u8],
+    bank: usize,
+) -> io::Result<()> {
     let mut own = crate::empty_ledger();
     let tally = run_lone(reporters, &mut own, answers, bank);
     let same = text::same(compartment(&own, bank), compartment(ledger, bank));
-    print_count(b"bank ", bank as u64);
-    print_count(b" calls ", tally.calls);
-    print_count(b" booked ", tally.booked);
+    print_count(rt, b"bank ", bank as u64)?;
+    print_count(rt, b" calls ", tally.calls)?;
+    print_count(rt, b" booked ", tally.booked)?;
     if same & tally.same {
-        io::write_all(STDOUT_FILENO, b" same\n");
+        rt.write_all(b" same\n")
     } else {
-        io::write_all(STDOUT_FILENO, b" different\n");
+        rt.write_all(b" different\n")
     }
 }
 
 // Compares each bank.
-fn compare_all<'a>(reporters: &'a [u8], ledger: &'a [u8], answers: &'a [u8]) {
+fn compare_all(rt: &impl Print, reporters: &[u8], ledger: &[u8], answers: &[u8]) -> io::Result<()> {
     let mut bank = 0;
     while bank < BANKS {
-        compare(reporters, ledger, answers, bank);
+        compare(rt, reporters, ledger, answers, bank)?;
         bank += 1;
     }
+    Ok(())
 }
 
 // Whether the answer that is kept for call k has a status.
@@ -184,21 +192,21 @@ fn count(answers: &[u8], status: u8) -> u64 {
 }
 
 // Prints how many calls there are, and of each kind.
-fn print_totals(answers: &[u8]) {
-    print_count(b"calls ", CALLS as u64);
-    print_count(b" refused ", count(answers, REFUSED));
-    print_count(b" strangers ", count(answers, STRANGER));
-    print_count(b" booked ", count(answers, BOOKED));
-    io::write_all(STDOUT_FILENO, b"\n");
+fn print_totals(rt: &impl Print, answers: &[u8]) -> io::Result<()> {
+    print_count(rt, b"calls ", CALLS as u64)?;
+    print_count(rt, b" refused ", count(answers, REFUSED))?;
+    print_count(rt, b" strangers ", count(answers, STRANGER))?;
+    print_count(rt, b" booked ", count(answers, BOOKED))?;
+    rt.write_all(b"\n")
 }
 
 // Makes the list, and compares each bank with its lone run.
-pub(crate) fn run() {
+pub(crate) fn run(rt: &(impl Files + Print + Eprint)) -> io::Result<()> {
     let mut reporters = [0u8; 512];
     let mut ledger = crate::empty_ledger();
-    let mut answers = io::large_buffer();
-    disk::load_or_fail(b"banks.ref", &mut reporters);
+    let mut answers = [0u8; CALLS * answer::SIZE];
+    disk::load_or_fail(rt, b"banks.ref", &mut reporters);
     run_list(&reporters, &mut ledger, &mut answers);
-    compare_all(&reporters, &ledger, &answers);
-    print_totals(&answers);
+    compare_all(rt, &reporters, &ledger, &answers)?;
+    print_totals(rt, &answers)
 }

@@ -12,6 +12,7 @@ mod refused;
 mod worked;
 
 use disk::load_or_fail;
+use std::io;
 
 // A ledger of zeros.
 fn empty_ledger() -> [u8; 32768]
@@ -21,14 +22,14 @@ fn empty_ledger() -> [u8; 32768]
 }
 
 // Runs the three parts; the ledger goes from the first to the second.
-fn main() {
+fn main(rt: HostRuntime) -> io::Result<()> {
     let mut table = [0u8; 512];
-    let mut file = io::buffer();
+    let mut file = [0u8; 4096];
     let mut ledger = empty_ledger();
-    let rows = load_or_fail(b"reporters.ref", &mut table);
-    let n = load_or_fail(b"worked.txt", &mut file);
+    let rows = load_or_fail(&rt, b"reporters.ref", &mut table);
+    let n = load_or_fail(&rt, b"worked.txt", &mut file);
     let reporters = text::front(&table, rows);
-    worked::run(reporters, &mut ledger, text::front(&file, n));
-    refused::run(reporters, &mut ledger);
-    list::run();
+    worked::run(&rt, reporters, &mut ledger, text::front(&file, n))?;
+    refused::run(&rt, reporters, &mut ledger)?;
+    list::run(&rt)
 }

@@ -1,17 +1,18 @@
 // What is printed: bytes as hexadecimal digits, and labelled numbers.
-use libc::STDOUT_FILENO;
+use std::io;
 
 // Prints two hexadecimal digits for each byte.
-pub(crate) fn print_bytes(s: &[u8]) {
+pub(crate) fn print_bytes(rt: &impl Print, s: &[u8]) -> io::Result<()> {
     let mut i = 0;
     while i < s.len() {
-        io::print_hex(STDOUT_FILENO, text::wide(s[i]), 2);
+        print!(rt; "{:02x}", s[i])?;
         i += 1;
     }
+    Ok(())
 }
 
 // Prints a label and a number.
-pub(crate) fn print_count(label: &[u8], n: u64) {
-    io::write_all(STDOUT_FILENO, label);
-    io::print_decimal(STDOUT_FILENO, n);
+pub(crate) fn print_count(rt: &impl Print, label: &[u8], n: u64) -> io::Result<()> {
+    rt.write_all(label)?;
+    print!(rt; "{n}")
 }

@@ -5,8 +5,10 @@
 ghost use Rattle.io.specs.Counts.{IsPrefixLen};
 
 use calls::filing::Filed;
-use disk::Loaded;
-use libc::{STDERR_FILENO, STDOUT_FILENO};
+use disk::{Loaded, Reason};
+use std::env::{Env, FillError};
+use std::fs;
+use std::rt::Files;
 
 // Room for a report, for 16 reporters, 512 currencies and a ledger, each with a byte more, so that what is too long is refused, and never cut.
 const REPORT_ROOM: usize = 32769;
@@ -25,36 +27,36 @@ const ANSWERS_ROOM: usize = MOST_RECORDS * answer::SIZE;
 const PAGE_ROOM: usize = 20505;
 
 // Reads a file, and complains where it cannot be read.
-fn load(path: &[u8], buffer: &mut [u8]) -> Loaded
+fn load(rt: &(impl Files + Eprint), path: &[u8], buffer: &mut [u8]) -> Loaded
     ensures { IsPrefixLen result.bytes buffer.new }
 {
-    disk::load_or_complain(path, buffer, b"nothing was booked: ")
+    disk::load_or_complain(rt, path, buffer, b"nothing was booked: ")
 }
 
 // Saves a file, and complains where it cannot be saved.
-fn save<'a>(bytes: &'a [u8], temporary: &'a [u8], name: &'a [u8]) -> bool {
-    let saved = disk::save_or_complain(bytes, temporary, name, b"nothing was booked: ");
+fn save(rt: &(impl Files + Eprint), bytes: &[u8], temporary: &[u8], name: &[u8]) -> bool {
+    let saved = disk::save_or_complain(rt, bytes, temporary, name, b"nothing was booked: ");
     saved.named
 }
 
 // Saves the ledger, and before it the answers where they are asked for: answers to a report that is then not booked do not stay.
-fn save_all<'a>(ledger: &'a [u8], answers: &'a [u8], wanted: bool) -> bool {
-    if wanted && !save(answers, b"answers.tmp", b"answers.new") {
+fn save_all(rt: &(impl Files + Eprint), ledger: &[u8], answers: &[u8], wanted: bool) -> bool {
+    if wanted && !save(rt, answers, b"answers.tmp", b"answers.new") {
         return false;
     }
-    if save(ledger, b"ledger.tmp", b"ledger.new") {
+    if save(rt, ledger, b"ledger.tmp", b"ledger.new") {
         return true;
     }
     if wanted {
-        os::unlink(b"answers.new");
+        let _ = fs::remove_file(rt, "answers.new");
     }
     false
 }
 
 // Prints a text, and says so where it cannot be printed.
-fn print(text: &[u8]) {
-    if !io::write_all(STDOUT_FILENO, text) {
-        os::fail(b"standard output");
+fn print(rt: &(impl Print + Eprint), text: &[u8]) {
+    if let Err(why) = rt.write_all(text) {
+        let _ = eprintln!(rt; "standard output: {}", Reason { error: why });
     }
 }
 
@@ -67,10 +69,11 @@ fn first_answers(answers: &[u8], n: usize) -> &[u8] {
 }
 
 // Files the report. What is asked for is saved before a line claims that something was booked.
-fn run<'a>(
-    file: &'a [u8],
-    reporters: &'a [u8],
-    currencies: &'a [u8],
+fn run(
+    rt: &(impl Files + Print + Eprint),
+    file: &[u8],
+    reporters: &[u8],
+    currencies: &[u8],
     ledger: &mut [u8],
     wanted: bool,
 ) {
@@ -79,30 +82,31 @@ fn run<'a>(
     match calls::filing::file_call(file, reporters, currencies, ledger, &mut answers) {
         Filed::Refused(n) => {
             let end = results::refused(&mut page, n);
-            print(text::front(&page, end));
+            print(rt, text::front(&page, end));
         }
         Filed::Count(n) => {
-            if save_all(ledger, first_answers(&answers, n), wanted) {
+            if save_all(rt, ledger, first_answers(&answers, n), wanted) {
                 let end = results::accepted(&mut page, &answers, n);
-                print(text::front(&page, end));
+                print(rt, text::front(&page, end));
             }
         }
     }
 }
 
 // Reads the four files, and files the report where all of them could be read.
-fn read_and_run(wanted: bool) {
+fn read_and_run(rt: &(impl Files + Print + Eprint), wanted: bool) {
     let mut file = [0u8; REPORT_ROOM];
     let mut reporters = [0u8; REPORTERS_ROOM];
     let mut currencies = [0u8; CURRENCIES_ROOM];
     let mut ledger = [0u8; LEDGER_ROOM];
-    let report = load(b"report.edi", &mut file);
-    let rows = load(b"reporters.ref", &mut reporters);
-    let codes = load(b"currency.ref", &mut currencies);
-    let booked = load(b"ledger.dat", &mut ledger);
+    let report = load(rt, b"report.edi", &mut file);
+    let rows = load(rt, b"reporters.ref", &mut reporters);
+    let codes = load(rt, b"currency.ref", &mut currencies);
+    let booked = load(rt, b"ledger.dat", &mut ledger);
     if report.readable & rows.readable & codes.readable & booked.readable {
         let n = booked.bytes;
         run(
+            rt,
             text::front(&file, report.bytes),
             text::front(&reporters, rows.bytes),
             text::front(&currencies, codes.bytes),
@@ -112,23 +116,29 @@ fn read_and_run(wanted: bool) {
     }
 }
 
+// Whether there is an argument of that number; the program's own name is number 0.
+fn is_given(rt: &impl Env, i: usize) -> bool {
+    let mut start = [0u8; 1];
+    match rt.arg(i, &mut start) {
+        Err(FillError::NotPresent) => false,
+        _ => true,
+    }
+}
+
 // Whether the only argument is `answers`.
-fn asks_for_answers() -> bool {
+fn asks_for_answers(rt: &impl Env) -> bool {
     let mut word = [0u8; 8];
-    let n = os::arg(1, &mut word);
-    (os::arg_count() == 2) & text::same(text::front(&word, n), b"answers")
+    let n = rt.arg(1, &mut word).unwrap_or(0);
+    !is_given(rt, 2) & text::same(text::front(&word, n), b"answers")
 }
 
 // Without an argument books the report; with `answers` saves its answers too; with any other does nothing, and says what it knows.
-fn main() {
-    if os::arg_count() < 2 {
-        return read_and_run(false);
+fn main(rt: HostRuntime) {
+    if !is_given(&rt, 1) {
+        return read_and_run(&rt, false);
     }
-    if asks_for_answers() {
-        return read_and_run(true);
+    if asks_for_answers(&rt) {
+        return read_and_run(&rt, true);
     }
-    io::write_all(
-        STDERR_FILENO,
-        b"nothing was booked: the only argument that report knows is answers\n",
-    );
+    let _ = eprintln!(rt; "nothing was booked: the only argument that report knows is answers");
 }

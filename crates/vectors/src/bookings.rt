@@ -8,7 +8,7 @@ use ledger::{
     COMPARTMENT_SIZE, LENGTH_PLACE, NO_PARTNER, NUMBER_PLACE, NUMBER_ROOM, PARTNER_PLACE,
     ROW_COUNT, ROW_SIZE, SIDE_PLACE, STATE_PLACE,
 };
-use libc::STDOUT_FILENO;
+use std::io;
 use words::{before, behind, number};
 
 // The partner that a word names; none where there is no word.
@@ -46,13 +46,12 @@ fn write_rows(compartment: &mut [u8], rows: &[u8]) {
 }
 
 // Prints a blank and the number of a row.
-fn print_row(row: usize) {
-    io::write_all(STDOUT_FILENO, b" ");
-    io::print_decimal(STDOUT_FILENO, row as u64);
+fn print_row(rt: &impl Print, row: usize) -> io::Result<()> {
+    print!(rt; " {row}")
 }
 
 // Prints what the line aims at, the set of failures, the lowest free row and the live row that F16 names, 64 for none.
-pub(crate) fn print(line: &[u8]) {
+pub(crate) fn print(rt: &impl Print, line: &[u8]) -> io::Result<()> {
     let mut compartment = [0u8; COMPARTMENT_SIZE];
     let cancelling = behind(line, b' ');
     let numbered = behind(cancelling, b' ');
@@ -60,10 +59,10 @@ pub(crate) fn print(line: &[u8]) {
     let f16 = value(before(cancelling, b' '));
     let f39 = value(before(numbered, b' '));
     let found = checks::judge_booking(&compartment, f16, f39);
-    io::write_all(STDOUT_FILENO, before(line, b' '));
-    io::write_all(STDOUT_FILENO, b" ");
-    print_failures(found.failed);
-    print_row(found.free);
-    print_row(found.named);
-    io::write_all(STDOUT_FILENO, b"\n");
+    rt.write_all(before(line, b' '))?;
+    rt.write_all(b" ")?;
+    print_failures(rt, found.failed)?;
+    print_row(rt, found.free)?;
+    print_row(rt, found.named)?;
+    rt.write_all(b"\n")
 }

@@ -1,6 +1,6 @@
 // Tables and ledgers, sound and damaged. A case is a line: its kind, a name for the rule that it breaks or meets, its length, and those of its
 // bytes that are not all zero, as PLACE:HEX.
-use libc::STDOUT_FILENO;
+use std::io;
 use words::{before, behind, number};
 
 // Writes what a token PLACE:HEX says.
@@ -18,32 +18,30 @@ fn patches(object: &mut [u8], tokens: &[u8]) {
 }
 
 // Prints a verdict: as it should be, or refused.
-fn verdict(ok: bool, refusal: &[u8]) {
+fn verdict(rt: &impl Print, ok: bool, refusal: &[u8]) -> io::Result<()> {
     if ok {
-        io::write_all(STDOUT_FILENO, b" ok\n");
+        rt.write_all(b" ok\n")
     } else {
-        io::write_all(STDOUT_FILENO, refusal);
+        rt.write_all(refusal)
     }
 }
 
 // Prints the line's kind and name, and whether the object is as it should be, or by which number a call is refused.
-pub(crate) fn print(line: &[u8]) {
+pub(crate) fn print(rt: &impl Print, line: &[u8]) -> io::Result<()> {
     let mut room = [0u8; 32769];
     let kind = before(line, b' ');
     let named = behind(line, b' ');
     let sized = behind(named, b' ');
     patches(&mut room, behind(sized, b' '));
     let object = text::front(&room, number(before(sized, b' ')));
-    io::write_all(STDOUT_FILENO, kind);
-    io::write_all(STDOUT_FILENO, b" ");
-    io::write_all(STDOUT_FILENO, before(named, b' '));
+    rt.write_all(kind)?;
+    rt.write_all(b" ")?;
+    rt.write_all(before(named, b' '))?;
     if text::same(kind, b"reporters") {
-        verdict(tables::reporters_ok(object), b" refused 2\n");
-        return;
+        return verdict(rt, tables::reporters_ok(object), b" refused 2\n");
     }
     if text::same(kind, b"currencies") {
-        verdict(tables::currencies_ok(object), b" refused 3\n");
-        return;
+        return verdict(rt, tables::currencies_ok(object), b" refused 3\n");
     }
-    verdict(ledger::sound_ledger(object), b" refused 4\n");
+    verdict(rt, ledger::sound_ledger(object), b" refused 4\n")
 }

@@ -1,8 +1,8 @@
 // Records, each judged at places 0 to 60. A case is a line: the place that it aims at, its sender, and the record.
 use answer::Answer;
 use failures::Failures;
-use libc::STDOUT_FILENO;
 use sender::Checked;
+use std::io;
 use words::{before, behind};
 
 // The failures of a record: of places 0 to 6, or, where it passes these, of places 7 to 60.
@@ -38,18 +38,23 @@ fn number_of(failed: Failures) -> u64 {
 }
 
 // Prints a set: its number, its first code and its count.
-pub(crate) fn print_failures(failed: Failures) {
+pub(crate) fn print_failures(rt: &impl Print, failed: Failures) -> io::Result<()> {
     let mut code = [0u8; 4];
     page::append_code(&mut code, 0, failed.code());
-    io::print_decimal(STDOUT_FILENO, number_of(failed));
-    io::write_all(STDOUT_FILENO, b" ");
-    io::write_all(STDOUT_FILENO, &code);
-    io::write_all(STDOUT_FILENO, b" ");
-    io::print_decimal(STDOUT_FILENO, failed.count() as u64);
+    print!(rt; "{}", number_of(failed))?;
+    rt.write_all(b" ")?;
+    rt.write_all(&code)?;
+    rt.write_all(b" ")?;
+    print!(rt; "{}", failed.count())
 }
 
 // Prints what the line aims at, and the set of failures.
-pub(crate) fn print<'a>(line: &'a [u8], reporters: &'a [u8], currencies: &'a [u8]) {
+pub(crate) fn print(
+    rt: &impl Print,
+    line: &[u8],
+    reporters: &[u8],
+    currencies: &[u8],
+) -> io::Result<()> {
     let sent = behind(line, b' ');
     let failed = failures_of(
         reporters,
@@ -57,8 +62,8 @@ pub(crate) fn print<'a>(line: &'a [u8], reporters: &'a [u8], currencies: &'a [u8
         before(sent, b' '),
         behind(sent, b' '),
     );
-    io::write_all(STDOUT_FILENO, before(line, b' '));
-    io::write_all(STDOUT_FILENO, b" ");
-    print_failures(failed);
-    io::write_all(STDOUT_FILENO, b"\n");
+    rt.write_all(before(line, b' '))?;
+    rt.write_all(b" ")?;
+    print_failures(rt, failed)?;
+    rt.write_all(b"\n")
 }
