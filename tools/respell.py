@@ -19,7 +19,7 @@ TOKEN = re.compile(r"[^\s(){}\[\];,.:@\"«»]+")
 # Lemmas that would have their function's name, and three constructors that would have an export's.
 LEMMAS = {
     ("failures", "added-from"), ("answer", "answer-in"), ("calls", "answers-over"), ("booking", "can-book"), ("frame", "earlier-fits"),
-    ("ledger", "empty-ledger"), ("fields", "field-by"), ("ledger", "filled_row"), ("ledger", "first-row"), ("calls", "formal-by"),
+    ("ledger", "empty-ledger"), ("fields", "field-by"), ("ledger", "filled_row"), ("ledger", "first-row"), ("calls", "formal-by"), ("calls", "in-a-row"),
     ("tables", "found-money"), ("error_file", "known-code"), ("ledger", "ledger-size"), ("identifier", "letter-sum"), ("envelope", "lines_at"),
     ("envelope", "lines_then"), ("enclosing", "lines_then"), ("frame", "lone-answers"), ("frame", "lone-state"), ("calls", "never-four"),
     ("capi", "never-four"), ("text", "number_put"), ("underlying", "present-tests"), ("calls", "records-of"),
@@ -42,7 +42,7 @@ def snake(name):
     if not re.fullmatch(r"[a-z][A-Za-z0-9_'-]*", name):
         return name
     name = name.replace("-", "_")
-    return re.sub(r"(?<=[a-z0-9])([A-Z])", lambda m: "_" + m.group(1).lower(), name)
+    return re.sub(r"(?<=[A-Za-z0-9])([A-Z])", lambda m: "_" + m.group(1).lower(), name)
 
 
 def files(root, kinds):

@@ -1,6 +1,6 @@
 -- "Answer record" of document 01: sixteen bytes, integers little-endian.
 -- Assumes nothing.
-use Rattle.std.specs.Prelude.{ℕ, ◌+◌, cond, List, [], ◌∷◌, ◌++◌, leb, length, get_or, take, drop}
+use Rattle.std.specs.Prelude.{ℕ, ◌+◌, cond, List, ◌∷◌, ◌++◌, leb, length, get_or, take, drop}
 use Rattle.text.specs.Number.{low_bytes, number_at}
 use Rattle.failures.specs.Failures.{no_failure}
 use Rattle.answer.specs.declared.Answer.{Answer}

@@ -29,7 +29,7 @@ use Rattle.calls.specs.Mixed.{Request, record_call, book_call, file_call, answer
 use Rattle.calls.specs.Mixed.{store_over, answers_over, replies_over, calls_of, request_calls, calls_over, sound_reply, FilesIsolated}
 use Rattle.calls.proofs.CallLaws.{refusal_never_four}
 use Rattle.calls.proofs.Demand3.{demand3}
-use Rattle.calls.proofs.JudgingLaws.{in_a_row, in_a_row_replies, in_a_row_ledger, booking_fits, booking_unfit, booking_never_four}
+use Rattle.calls.proofs.JudgingLaws.{in_a_row_lem, in_a_row_replies, in_a_row_ledger, booking_fits, booking_unfit, booking_never_four}
 use Rattle.calls.proofs.ListLaws.{answers_append, after_in_order, answers_sized}
 use Rattle.calls.proofs.ReadingLaws.{standing_admitted, reading_never_four}
 
@@ -50,7 +50,7 @@ module _ (tables : Tables) where
   -- a request leaves and answers what the calls do that it stands for
   request_store_lem : (q : Request) (l : List ℕ) → ledger_flaw l ≡ 0 → request_store tables q l ≡ store_after (rules tables) (request_calls tables q) l
   unfolding file_of carried_out
-  request_store_lem (record_call c) l h = ap (λ (o : Outcome (List ℕ) (List ℕ)). o.store) (in_a_row tables c l)
+  request_store_lem (record_call c) l h = ap (λ (o : Outcome (List ℕ) (List ℕ)). o.store) (in_a_row_lem tables c l)
   request_store_lem (book_call b) l h = (booking_stands b l).0
   request_store_lem (file_call file a) l h =
       ap (λ (n : ℕ). (carried_out tables (reading_of tables file (length a) n) l a).store) h
@@ -62,7 +62,7 @@ module _ (tables : Tables) where
 
   request_answers_lem : (q : Request) (l : List ℕ) → ledger_flaw l ≡ 0 → request_answers tables q l ≡ answers_in (replies (rules tables) (request_calls tables q) l)
   unfolding file_of carried_out answers_in
-  request_answers_lem (record_call c) l h = ap (λ (o : Outcome (List ℕ) (List ℕ)). answers_in (o.reply ∷ [])) (in_a_row tables c l)
+  request_answers_lem (record_call c) l h = ap (λ (o : Outcome (List ℕ) (List ℕ)). answers_in (o.reply ∷ [])) (in_a_row_lem tables c l)
   request_answers_lem (book_call b) l h = (booking_stands b l).1
   request_answers_lem (file_call file a) l h =
       ap (λ (n : ℕ). answers_of (carried_out tables (reading_of tables file (length a) n) l a)) h
@@ -110,7 +110,7 @@ module _ (tables : Tables) where
   -- on a ledger in order a request returns what it returns on every other
   request_reply_lem : (q : Request) (l : List ℕ) → ledger_flaw l ≡ 0 → request_reply tables q l ≡ sound_reply tables q
   request_reply_lem (record_call c) l h =
-      ap (λ (o : Outcome (List ℕ) (List ℕ)). map_reply (λ a. 1) o.reply) (in_a_row tables c l)
+      ap (λ (o : Outcome (List ℕ) (List ℕ)). map_reply (λ a. 1) o.reply) (in_a_row_lem tables c l)
       ∙ answered_once (rules tables) c l
       ∙ ap (λ (n : ℕ). past (refusal_of tables c n) (accepted 1)) h
   request_reply_lem (book_call b) l h =

@@ -38,7 +38,7 @@ use Rattle.calls.specs.declared.judging.Foreseen.{Foreseen}
 use Rattle.calls.specs.CallSteps.{ForeseenBy}
 use Rattle.calls.specs.Call.{Call, refusal_of, checked_of, formal_of, answer_of, step_failures, step_answer}
 use Rattle.calls.specs.Rules.{rules}
-use Rattle.calls.specs.Judging.{booking, fits_failures, answer_in, earlier_fits, booking_rules, judged_of, in_aRow, replies_in_aRow, ledger_in_aRow, judged_on}
+use Rattle.calls.specs.Judging.{booking, fits_failures, answer_in, earlier_fits, booking_rules, judged_of, in_a_row, replies_in_a_row, ledger_in_a_row, judged_on}
 use Rattle.calls.proofs.CallLaws as law
 use Rattle.calls.proofs.CallLaws.{formal_at, call_settled}
 
@@ -105,18 +105,18 @@ module _ (tables : Tables) where
           absurd (omega arith)
 
   -- The two in a row are the old call, its reply and its ledger, refused or not.
-  pub in_a_row : (call : Call) (l : List ℕ) → in_aRow tables call l ≡ single (rules tables) call l
-  unfolding in_aRow judged_of
-  in_a_row call l = earlier_fits_lem (rules tables) (earlier_fits tables) 29 _ l (accepted_fits call l)
+  pub in_a_row_lem : (call : Call) (l : List ℕ) → in_a_row tables call l ≡ single (rules tables) call l
+  unfolding in_a_row judged_of
+  in_a_row_lem call l = earlier_fits_lem (rules tables) (earlier_fits tables) 29 _ l (accepted_fits call l)
 
   -- and so are lists of them
-  pub in_a_row_replies : (calls : List Call) (l : List ℕ) → replies_in_aRow tables calls l ≡ replies (rules tables) calls l
+  pub in_a_row_replies : (calls : List Call) (l : List ℕ) → replies_in_a_row tables calls l ≡ replies (rules tables) calls l
   in_a_row_replies [] l = refl
-  in_a_row_replies (c ∷ cs) l = rw (in_a_row c l, in_a_row_replies cs (single (rules tables) c l).store)
+  in_a_row_replies (c ∷ cs) l = rw (in_a_row_lem c l, in_a_row_replies cs (single (rules tables) c l).store)
 
-  pub in_a_row_ledger : (calls : List Call) (l : List ℕ) → ledger_in_aRow tables calls l ≡ store_after (rules tables) calls l
+  pub in_a_row_ledger : (calls : List Call) (l : List ℕ) → ledger_in_a_row tables calls l ≡ store_after (rules tables) calls l
   in_a_row_ledger [] l = refl
-  in_a_row_ledger (c ∷ cs) l = rw (in_a_row c l) (in_a_row_ledger cs (single (rules tables) c l).store)
+  in_a_row_ledger (c ∷ cs) l = rw (in_a_row_lem c l) (in_a_row_ledger cs (single (rules tables) c l).store)
 
   -- A list whose earlier answers fit is the list of the old calls: the same replies, the same ledger.
   pub fitting_day : (bookings : List (WithEarlier Call)) (l : List ℕ) → AllFit (rules tables) (earlier_fits tables) 29 bookings
@@ -217,8 +217,8 @@ module _ (tables : Tables) where
     booking_refused {k} q ne = sym (single_refused (booking_rules tables) (booking call earlier) l k (sym q) ne)
 
   -- what the old call and judging come to, by the number of the call
-  pub row_decided : (call : Call) (l : List ℕ) → Decided (refusal_of tables call (ledger_flaw l)) (in_aRow tables call l) l
-  row_decided call l = rw (in_a_row call l) (single_decided (rules tables) call l)
+  pub row_decided : (call : Call) (l : List ℕ) → Decided (refusal_of tables call (ledger_flaw l)) (in_a_row tables call l) l
+  row_decided call l = rw (in_a_row_lem call l) (single_decided (rules tables) call l)
 
   pub judged_decided : (call : Call) (l : List ℕ) → Decided (refusal_of tables call (ledger_flaw l)) (judged_of tables call l) l
   unfolding judged_of

@@ -58,7 +58,7 @@ use Rattle.envelope.specs.Envelope.{file_limit, head_of, tail_of, body_stage, en
 use Rattle.calls.specs.Call.{Call, called, record_form, refusal_of, checked_of, row_of, formal_of, answer_of, step_failures, step_answer, booked_as}
 use Rattle.calls.specs.Call.{step_compartment}
 use Rattle.calls.specs.Rules.{rules}
-use Rattle.calls.specs.Judging.{in_aRow}
+use Rattle.calls.specs.Judging.{in_a_row}
 use Rattle.calls.specs.Demand3.{CallsIsolated}
 use Rattle.calls.specs.Filing.{report_calls, opened_reading, reading_of, answers_in, file_outcome, carried_out, file_of}
 use Rattle.calls.specs.Worked.{worked_reporters, worked_currencies, worked_tables, worked_sender, empty_ledger}
@@ -66,7 +66,7 @@ use Rattle.calls.specs.Worked.{booked_answer, r1_answer, r5_answer, future, futu
 use Rattle.calls.specs.Worked.{r1_row, r1_compartment, blank_answer, worked_file}
 use Rattle.calls.proofs.CallLaws.{call_passes, accepted_call}
 use Rattle.calls.proofs.Demand3.{demand3}
-use Rattle.calls.proofs.JudgingLaws.{in_a_row}
+use Rattle.calls.proofs.JudgingLaws.{in_a_row_lem}
 use Rattle.calls.proofs.ReadingLaws.{lent_none, reading_on}
 
 -- The worked tables are as document 01 asks, and the all-zero ledger is sound: what theorem demand3 asks can be met.
@@ -94,7 +94,7 @@ second e = head-eq_of_cons-eq (tail-eq_of_cons-eq e)
 
 -- a record called singly by the worked sender on the all-zero ledger
 abbrev called_alone : List ℕ → Outcome (List ℕ) (List ℕ)
-called_alone s = in_aRow worked_tables (called worked_sender s) empty_ledger
+called_alone s = in_a_row worked_tables (called worked_sender s) empty_ledger
 
 abbrev zeros : List ℕ
 zeros = replicate compartment_size 0
@@ -125,7 +125,7 @@ on_zeros : (s : List ℕ) {answer c : List ℕ} → computed s ≡ (true, 0, ans
     ≡ record { reply = accepted answer; store = put compartment_size 0 c empty_ledger }
 on_zeros s e =
     let row = ap (λ p. p.1) e in
-    in_a_row worked_tables (called worked_sender s) empty_ledger
+    in_a_row_lem worked_tables (called worked_sender s) empty_ledger
     ∙ single_step (rules worked_tables) (called worked_sender s) empty_ledger 0 (not_refused s (ap (λ p. p.0) e)) row (omega arith)
     ∙ (λ i. record {
       reply = accepted (answer_bytes (step_answer (formal_of worked_tables (called worked_sender s)) s (zeros_part i)));
@@ -154,7 +154,7 @@ steps = refl
 -- R1 is booked in row 0 of compartment 0, and the rest of the ledger stays; R5 is answered with its set, and nothing is booked; a future with 0,125000 as
 -- contract size is booked as R1 is. R1 with the quantity 0,0000 fails at place 34 alone; an option with zero at places 41, 50 and 51 is booked
 pub worked :
-    map (λ r. in_aRow worked_tables (called worked_sender r) empty_ledger) (r1 ∷ r5 ∷ future ∷ zero_quantity ∷ zero_terms ∷ [])
+    map (λ r. in_a_row worked_tables (called worked_sender r) empty_ledger) (r1 ∷ r5 ∷ future ∷ zero_quantity ∷ zero_terms ∷ [])
     ≡ record { reply = accepted r1_answer; store = put compartment_size 0 r1_compartment empty_ledger }
     ∷ record { reply = accepted r5_answer; store = empty_ledger }
     ∷ record { reply = accepted future_answer; store = put compartment_size 0 r1_compartment empty_ledger }
@@ -192,7 +192,7 @@ blank_called : called_alone [] ≡ record { reply = accepted blank_answer; store
 unfolding blank_answer record_form all low_bytes checked_of sender_check sender_tests is_whole semicolons_from added added_from holds is_empty answer_of codes code_at
     status_at count_trailing_zeros answer_bytes
 blank_called =
-    in_a_row worked_tables (called worked_sender []) empty_ledger
+    in_a_row_lem worked_tables (called worked_sender []) empty_ledger
     ∙ single_stranger (rules worked_tables) (called worked_sender []) empty_ledger (not_refused [] refl) (omega arith)
 
 -- The file call: a body of one CR LF has no record; one of two holds one, answered 9001. Nothing is booked, and the rest of the buffer stays.

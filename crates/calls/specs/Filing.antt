@@ -9,7 +9,7 @@ use Rattle.answer.specs.Answer.{answer_size}
 use Rattle.envelope.specs.declared.Layout.{Layout}
 use Rattle.envelope.specs.Envelope.{file_limit, report_of, sender_of, records_from}
 use Rattle.calls.specs.Call.{Call, called}
-use Rattle.calls.specs.Judging.{replies_in_aRow, ledger_in_aRow}
+use Rattle.calls.specs.Judging.{replies_in_a_row, ledger_in_a_row}
 
 -- the number by which a file call is refused for what it is lent: 1, 2, 3, 4, the first that applies; 0 for none. The ledger's own number is given
 unfoldable pub lent_refusal : Tables → List ℕ → ℕ → ℕ
@@ -48,8 +48,8 @@ module _ (tables : Tables) where
   unfoldable pub carried_out : Reply (List Call) → List ℕ → List ℕ → FileOutcome
   carried_out (refused n) l a = file_outcome (refused n) l a
   carried_out (accepted calls) l a =
-      file_outcome (accepted (length calls)) (ledger_in_aRow tables calls l)
-      (answers_in (replies_in_aRow tables calls l) ++ drop (length calls * answer_size) a)
+      file_outcome (accepted (length calls)) (ledger_in_a_row tables calls l)
+      (answers_in (replies_in_a_row tables calls l) ++ drop (length calls * answer_size) a)
 
   -- the file call
   unfoldable pub file_of : List ℕ → List ℕ → List ℕ → FileOutcome

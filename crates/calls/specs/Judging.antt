@@ -38,17 +38,17 @@ module _ (tables : Tables) where
   judged_of call l = record { reply = (single (rules tables) call l).reply; store = l }
 
   -- the two in a row: judging, then booking by its answer
-  unfoldable pub in_aRow : Call → List ℕ → Outcome (List ℕ) (List ℕ)
-  in_aRow call l = single booking_rules (booking call (answer_in (judged_of call l).reply)) l
+  unfoldable pub in_a_row : Call → List ℕ → Outcome (List ℕ) (List ℕ)
+  in_a_row call l = single booking_rules (booking call (answer_in (judged_of call l).reply)) l
 
   -- a list of calls, each as the two in a row on the ledger that the last one left
-  abbrev pub replies_in_aRow : List Call → List ℕ → List (Reply (List ℕ))
-  replies_in_aRow [] l = []
-  replies_in_aRow (c ∷ cs) l = (in_aRow c l).reply ∷ replies_in_aRow cs (in_aRow c l).store
+  abbrev pub replies_in_a_row : List Call → List ℕ → List (Reply (List ℕ))
+  replies_in_a_row [] l = []
+  replies_in_a_row (c ∷ cs) l = (in_a_row c l).reply ∷ replies_in_a_row cs (in_a_row c l).store
 
-  abbrev pub ledger_in_aRow : List Call → List ℕ → List ℕ
-  ledger_in_aRow [] l = l
-  ledger_in_aRow (c ∷ cs) l = ledger_in_aRow cs (in_aRow c l).store
+  abbrev pub ledger_in_a_row : List Call → List ℕ → List ℕ
+  ledger_in_a_row [] l = l
+  ledger_in_a_row (c ∷ cs) l = ledger_in_a_row cs (in_a_row c l).store
 
   -- a list of calls, each to be booked by the answer that it was given on a ledger
   abbrev pub judged_on : List ℕ → List Call → List (WithEarlier Call)

@@ -9,7 +9,7 @@ use Rattle.tables.specs.Tables.{Tables}
 use Rattle.answer.specs.Answer.{answer_size}
 use Rattle.calls.specs.Call.{Call, refusal_of}
 use Rattle.calls.specs.Rules.{rules}
-use Rattle.calls.specs.Judging.{earlier_fits, booking_rules, in_aRow}
+use Rattle.calls.specs.Judging.{earlier_fits, booking_rules, in_a_row}
 use Rattle.calls.specs.Demand3.{CallsIsolated}
 use Rattle.calls.specs.Filing.{reading_of, file_of, answers_in, FileOutcome}
 
@@ -30,17 +30,17 @@ answers_of o = in_buffer o.reply
 module _ (tables : Tables) where
   -- what a request leaves, answers and returns, on the ledger as it then is: the number of its refusal, or how many answers it gives
   abbrev pub request_store : Request → List ℕ → List ℕ
-  request_store (record_call c) l = (in_aRow tables c l).store
+  request_store (record_call c) l = (in_a_row tables c l).store
   request_store (book_call b) l = (single (booking_rules tables) b l).store
   request_store (file_call file a) l = (file_of tables file l a).store
 
   abbrev pub request_answers : Request → List ℕ → List ℕ
-  request_answers (record_call c) l = answers_in ((in_aRow tables c l).reply ∷ [])
+  request_answers (record_call c) l = answers_in ((in_a_row tables c l).reply ∷ [])
   request_answers (book_call b) l = answers_in ((single (booking_rules tables) b l).reply ∷ [])
   request_answers (file_call file a) l = answers_of (file_of tables file l a)
 
   abbrev pub request_reply : Request → List ℕ → Reply ℕ
-  request_reply (record_call c) l = map_reply (λ a. 1) (in_aRow tables c l).reply
+  request_reply (record_call c) l = map_reply (λ a. 1) (in_a_row tables c l).reply
   request_reply (book_call b) l = map_reply (λ a. 1) (single (booking_rules tables) b l).reply
   request_reply (file_call file a) l = (file_of tables file l a).reply
 

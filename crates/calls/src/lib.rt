@@ -10,7 +10,7 @@ ghost use Rattle.ledger.specs.Sound.{bank_count, compartment_size, ledger_size, 
 ghost use Rattle.booking.specs.Booking.{booked};
 ghost use Rattle.calls.specs.Call.{record_form, call_flaw, refusal_of, called};
 ghost use Rattle.calls.specs.Rules.{rules};
-ghost use Rattle.calls.specs.Judging.{in_aRow};
+ghost use Rattle.calls.specs.Judging.{in_a_row};
 ghost use Rattle.calls.specs.Replied.{outcome};
 ghost use Rattle.calls.specs.declared.Replied.TheVariants.{Answered};
 
@@ -130,7 +130,7 @@ pub fn record_call<'a>(
     sender: &'a [u8],
     record: &'a [u8],
 ) -> Replied
-    ensures { outcome result ledger.new ≡ in_aRow (tables_of reporters.now currencies.now)
+    ensures { outcome result ledger.new ≡ in_a_row (tables_of reporters.now currencies.now)
         (called sender.now «record».now) ledger.old }
 {
     let n = refusal(reporters, currencies, ledger, sender, record);

@@ -22,11 +22,11 @@ use Rattle.ledger.specs.Sound.{sound_ledger, ledger_flaw}
 use Rattle.ledger.proofs.LedgerLaws.{flaw_none}
 use Rattle.answer.specs.Answer.{answer_size}
 use Rattle.calls.specs.Call.{Call, called, refusal_of}
-use Rattle.calls.specs.Judging.{booking, booking_rules, in_aRow}
+use Rattle.calls.specs.Judging.{booking, booking_rules, in_a_row}
 use Rattle.calls.specs.Filing.{FileOutcome, reading_of, answers_in, file_of}
 use Rattle.calls.specs.Mixed.{Request, record_call, book_call, request_store, request_answers, store_over, answers_over}
 use Rattle.calls.proofs.CallLaws.{refusal_never_four}
-use Rattle.calls.proofs.JudgingLaws.{in_a_row, row_decided, booking_never_four}
+use Rattle.calls.proofs.JudgingLaws.{in_a_row_lem, row_decided, booking_never_four}
 use Rattle.calls.proofs.ListLaws.{single_answered, booking_answered}
 use Rattle.calls.proofs.ReadingLaws.{reading_numbered, reading_never_four}
 use Rattle.calls.proofs.Files.{demand3_files, file_told, over_append, over_in_order}
@@ -102,9 +102,9 @@ module _ (tables : Tables) where
   export_same (record_exported sender s a) l h =
       let call : Call = called sender s in
       let number = ap (refusal_of tables call) h in
-      let same = in_a_row tables call l in
-      single_same (record_exported sender s a) (record_call call) a l (refusal_of tables call 0) (in_aRow tables call l)
-      (subst (λ (n : ℕ). Decided n (in_aRow tables call l) l) number (row_decided tables call l)) refl refl refl refl refl refl
+      let same = in_a_row_lem tables call l in
+      single_same (record_exported sender s a) (record_call call) a l (refusal_of tables call 0) (in_a_row tables call l)
+      (subst (λ (n : ℕ). Decided n (in_a_row tables call l) l) number (row_decided tables call l)) refl refl refl refl refl refl
       (λ free. rw same (single_answered tables call l (number ∙ free)))
   export_same (book_exported sender s earlier a) l h =
       let b : WithEarlier Call = booking (called sender s) earlier in

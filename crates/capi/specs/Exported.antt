@@ -14,7 +14,7 @@ use Rattle.error_file.specs.ErrorFile.{error_file_of}
 use Rattle.calls.specs.declared.Replied.{Replied}
 use Rattle.calls.specs.declared.Replied.TheVariants.{Refused, Answered}
 use Rattle.calls.specs.Call.{called}
-use Rattle.calls.specs.Judging.{booking, booking_rules, judged_of, in_aRow}
+use Rattle.calls.specs.Judging.{booking, booking_rules, judged_of, in_a_row}
 use Rattle.calls.specs.Filing.{FileOutcome, file_of}
 
 -- the number that is returned, and the lent ledger, buffer and words as the call leaves them
@@ -42,7 +42,7 @@ single_export o l a = single_reply o l a o.reply
 
 -- the old single-record call; and of document 02, Item 5, judging, and booking by an earlier answer
 abbrev pub record_export : Tables → List ℕ → List ℕ → List ℕ → List ℕ → Exported
-record_export tables sender «record» l a = single_export (in_aRow tables (called sender «record») l) l a
+record_export tables sender «record» l a = single_export (in_a_row tables (called sender «record») l) l a
 
 abbrev pub judge_export : Tables → List ℕ → List ℕ → List ℕ → List ℕ → Exported
 judge_export tables sender «record» l a = single_export (judged_of tables (called sender «record») l) l a

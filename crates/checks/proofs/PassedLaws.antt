@@ -30,7 +30,6 @@ use Rattle.terms.specs.Terms.{is_value, is_positive, terms_tests}
 use Rattle.terms.specs.Capacity.{capacity_tests}
 use Rattle.terms.specs.Derivative.{derivative_tests}
 use Rattle.terms.specs.Marks.{mark_tests}
-use Rattle.checks.specs.declared.Booking.{Booking}
 use Rattle.checks.specs.Record.{client_group, trade_group, instrument_group, terms_group, capacity_group, derivative_group, underlying_group, marks_group}
 use Rattle.checks.specs.Record.{record_tests, record_failures}
 use Rattle.checks.specs.Booking.{named_row, booking_tests, booking_of}

@@ -1,10 +1,9 @@
 -- The failures of a record on its bank's compartment, once places 0 to 60 are judged; and what became of a record, by its first failure (byte 11 of
 -- document 01's answer record).
 -- Assumes nothing.
-use Rattle.std.specs.Prelude.{ℕ, Bool, cond, List, ltb}
+use Rattle.std.specs.Prelude.{ℕ, cond, List, ltb}
 use Rattle.failures.specs.declared.Failures.{Failures}
 use Rattle.failures.specs.Failures.{is_empty, first_place}
-use Rattle.checks.specs.declared.Booking.{Booking}
 use Rattle.checks.specs.Booking.{booking_of}
 
 -- the failures of places 0 to 60, and 61 to 63 only if all before pass
