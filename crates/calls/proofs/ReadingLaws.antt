@@ -18,7 +18,6 @@ use Rattle.envelope.specs.declared.Layout.{Layout}
 use Rattle.envelope.specs.declared.Opened.{Opened}
 use Rattle.envelope.specs.declared.Opened.TheVariants.{Report, Refused}
 use Rattle.envelope.specs.Pieces.{between}
-use Rattle.envelope.specs.Body.{records}
 use Rattle.envelope.specs.Envelope.{file_limit, report_class, report_of, opened_as, sender_of, records_from}
 use Rattle.envelope.proofs.OpenedLaws.{Whole, opened_whole, refused_from_five}
 use Rattle.calls.specs.Call.{Call, called, record_limit}

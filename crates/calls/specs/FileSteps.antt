@@ -6,7 +6,6 @@ use Rattle.frame.specs.Parts.{put}
 use Rattle.tables.specs.Tables.{Tables}
 use Rattle.ledger.specs.Sound.{ledger_flaw}
 use Rattle.answer.specs.Answer.{answer_size}
-use Rattle.envelope.specs.declared.Piece.{Piece}
 use Rattle.envelope.specs.declared.Piece.TheVariants.{EndsAt, Missing}
 use Rattle.envelope.specs.Body.{records, records_of, record_at, line_end}
 use Rattle.envelope.specs.Envelope.{listed}

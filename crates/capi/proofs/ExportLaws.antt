@@ -1,6 +1,6 @@
 -- Laws of the exported calls: their replies as numbers, and what they leave.
 -- Assumes nothing.
-use Prim.Native.Nat.{ℕ, ◌%◌, ◌≤◌, ◌<◌}
+use Prim.Native.Nat.{ℕ, ◌%◌}
 use native.Mathlib.Omega.{arith}
 use mathlib.Core.Bool.{Bool, true, false, cond}
 use mathlib.Core.List.{List, [], ◌∷◌}
@@ -16,7 +16,6 @@ use Rattle.identifier.specs.Isin.{letter_sum}
 use Rattle.identifier.proofs.IsinLaws.{letter_sum_lem}
 use Rattle.tables.specs.Tables.{Tables}
 use Rattle.ledger.specs.Sound.{ledger_flaw}
-use Rattle.answer.specs.declared.Answer.{Answer}
 use Rattle.answer.specs.Answer.{answer_size, answer_bytes, answer_put}
 use Rattle.page.specs.Page.{WriteOutcome, write_outcome, wrote_into}
 use Rattle.error_file.specs.declared.Wrote.{Wrote}

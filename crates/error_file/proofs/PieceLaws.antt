@@ -18,7 +18,7 @@ use Rattle.text.specs.Text.{bytes}
 use Rattle.failures.specs.Codes.{is_no_code}
 use Rattle.failures.proofs.CodeLaws.{code_known}
 use Rattle.envelope.specs.declared.Piece.TheVariants.{EndsAt, Missing}
-use Rattle.envelope.specs.Body.{records, crlf, records_of, record_at, line_end}
+use Rattle.envelope.specs.Body.{crlf, records_of, record_at, line_end}
 use Rattle.envelope.specs.Envelope.{record_count_limit, listed}
 use Rattle.envelope.specs.Written.{lines_then}
 use Rattle.envelope.proofs.LineLaws.{line_placed, line_bytes, line_there, lines_split, lines_end}

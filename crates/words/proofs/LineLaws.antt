@@ -16,7 +16,7 @@ use Rattle.text.specs.Bytes.{same, position_of}
 use Rattle.text.specs.Text.{bytes}
 use Rattle.text.specs.Part.{Lies, rest_start}
 use Rattle.text.proofs.ByteLaws.{position_le}
-use Rattle.page.specs.Page.{Page, page, appended}
+use Rattle.page.specs.Page.{Page, appended}
 use Rattle.page.proofs.PageLaws.{appended_both}
 use Rattle.words.specs.Words.{before_first, behind_first, tail_start, next_place, digit_value, byte_of, bytes_of, piece_bytes, repeated}
 

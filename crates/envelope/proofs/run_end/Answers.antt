@@ -1,4 +1,3 @@
-use Prim.Native.Nat.{◌-◌}
 use mathlib.Core.Path.{refl, ◌∙◌, sym}
 use Rattle.envelope.proofs.PieceLaws.{run_on, run_stop, run_end}
 use Rattle.envelope.proofs.run_end.Goals as goal

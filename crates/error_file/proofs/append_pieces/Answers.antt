@@ -1,5 +1,5 @@
 use native.Mathlib.Omega.{arith}
-use Prim.Native.Nat.{◌-◌, ◌<◌, ◌≤◌}
+use Prim.Native.Nat.{◌<◌, ◌≤◌}
 use lib.ListN.{length}
 use Rattle.error_file.proofs.PieceLaws.{writing_start, writing_more, writing_done, lined_there, lined_placed, lined_few, lined_code}
 use Rattle.error_file.proofs.append_pieces.Goals as goal

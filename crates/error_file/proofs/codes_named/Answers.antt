@@ -1,6 +1,4 @@
 use borrow.Author.Rules.{rules}
-use Prim.Native.Nat.{◌-◌}
-use mathlib.Core.Bool.{true}
 use mathlib.Core.Path.{◌∙◌}
 use Rattle.frame.proofs.EveryLaws.{every_none, every_more, every_broke, every_done}
 use Rattle.error_file.proofs.ErrorLaws.{named_by}

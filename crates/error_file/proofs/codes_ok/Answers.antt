@@ -1,6 +1,5 @@
 use borrow.Author.Rules.{rules}
-use Prim.Native.Nat.{◌-◌}
-use mathlib.Core.Bool.{true, not}
+use mathlib.Core.Bool.{not}
 use mathlib.Core.Path.{ap, sym, ◌∙◌}
 use Rattle.frame.proofs.EveryLaws.{every_none, every_more, every_broke, every_done}
 use Rattle.failures.specs.Codes.{is_no_code}

@@ -1,8 +1,7 @@
 use Rattle.error_file.proofs.PieceLaws.{Summed}
 use Rattle.std.proofs.Common.{◌+◌}
 use native.Mathlib.Omega.{arith}
-use Prim.Native.Nat.{◌-◌, ◌<◌, ◌≤◌}
-use lib.ListN.{length, length-take}
+use lib.ListN.{length-take}
 use Rattle.error_file.proofs.PieceLaws.{summed_start, summed_more, summed_done, lined_there, lined_placed, lined_few, lined_code}
 use Rattle.error_file.proofs.pieces_size.Goals as goal
 

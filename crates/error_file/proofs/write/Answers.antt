@@ -8,9 +8,7 @@ use lib.ListN.{length-take, length-drop}
 use Rattle.frame.specs.Reply.{accepted}
 use Rattle.envelope.specs.Envelope.{report_class, report_of, opened_as, records_from}
 use Rattle.envelope.proofs.OpenedLaws.{Whole, opened_whole}
-use Rattle.texts.specs.Index.{index_of}
-use Rattle.error_file.specs.ErrorFile.{error_flaw}
-use Rattle.error_file.proofs.ErrorLaws.{date_digits, minute_digits, Free, flaw_by, flaw_free, report_lined}
+use Rattle.error_file.proofs.ErrorLaws.{date_digits, minute_digits, flaw_by, flaw_free, report_lined}
 use Rattle.error_file.proofs.ErrorLaws.{error_long, error_unopened, error_flawed, error_on}
 use Rattle.error_file.proofs.write.Goals as goal
 

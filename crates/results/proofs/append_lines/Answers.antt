@@ -1,7 +1,6 @@
 use borrow.Author.Rules.{rules}
 use native.Mathlib.Omega.{arith}
 use mathlib.Core.Path.{◌≡◌, refl}
-use Prim.Native.Nat.{◌-◌}
 use Rattle.page.proofs.PageLaws.{appended_length}
 use Rattle.results.proofs.ResultLaws.{lines_none, lines_more}
 use Rattle.results.proofs.append_lines.Goals as goal

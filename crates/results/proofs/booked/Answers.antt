@@ -1,7 +1,6 @@
 use borrow.Author.Rules.{rules}
 use native.Mathlib.Omega.{arith}
 use mathlib.Core.Path.{◌≡◌}
-use Prim.Native.Nat.{◌-◌}
 use Rattle.results.proofs.ResultLaws.{booked_none, booked_more, booked_same}
 use Rattle.results.proofs.booked.Goals as goal
 

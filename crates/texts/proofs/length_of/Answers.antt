@@ -1,5 +1,4 @@
 use borrow.Author.Rules.{rules}
-use mathlib.Core.Bool.{true}
 use Rattle.texts.proofs.TextLaws.{trimmed_all, trimmed_stop, trimmed_go, trimmed_end}
 use Rattle.texts.proofs.length_of.Goals as goal
 

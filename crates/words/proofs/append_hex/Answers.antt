@@ -1,5 +1,4 @@
 use borrow.Author.Rules.{rules}
-use Prim.Native.Nat.{◌-◌}
 use mathlib.Core.Path.{refl, ◌∙◌, ap}
 use Rattle.words.specs.Words.{byte_of}
 use Rattle.words.proofs.LineLaws.{bytes_more, bytes_done}

@@ -1,8 +1,4 @@
-use mathlib.Core.Path.{◌≡◌, refl}
-use Rattle.fields.specs.Fields.{field_by, is_whole_index}
-use Rattle.tables.specs.Currencies.{found_money}
-use Rattle.calls.specs.declared.judging.Formal.{Formal}
-use Rattle.calls.specs.Call.{formal_in, formal_by}
+use mathlib.Core.Path.{refl}
 use Rattle.calls.proofs.CallLaws.{formal_by_lem}
 use Rattle.calls.proofs.judging.judge_formal.Goals as goal
 
