@@ -364,7 +364,7 @@ module _ (tables : Tables) (call : Call) (l : List ℕ) where
     unfolding step_answer answer_of
     foreseen_row = ap (λ (w : Answer). w.row) h.answered
 
-    foreseen_bank : is_empty f.answer.failed ≡ true → f.answer.row < bank_count
+    pub foreseen_bank : is_empty f.answer.failed ≡ true → f.answer.row < bank_count
     foreseen_bank n =
         rw foreseen_row (passed_bank tables call (accepted tables call (ledger_flaw l) free).listed
         (formal_passed tables call (answer_passed formal call.«record» c h.answered n)).0)
@@ -375,13 +375,17 @@ module _ (tables : Tables) (call : Call) (l : List ℕ) where
         let store = sym (step_left formal call.«record» l (ap is_empty (sym foreseen_failures) ∙ n)) in
         (λ i. record { reply = R.accepted (answer_bytes (h.answered i)); store = store i }) ∙ call_settled free
 
+    -- what it enters lies in its record
+    pub foreseen_inside : is_empty f.answer.failed ≡ true → f.number.start + f.number.length ≤ length call.«record»
+    foreseen_inside n = rw (h.enters n).number (field_inside call.«record» 39)
+
     -- what is asked of a booking: the row is a bank's, the ledger of its length, and what it enters lies in its record
     pub foreseen_ready : is_empty f.answer.failed ≡ true
         → (f.answer.row < bank_count) × (length l ≡ ledger_size) × (f.number.start + f.number.length ≤ length call.«record»)
     foreseen_ready n = (
       foreseen_bank n,
       ledger_size_lem l (flawless l (accepted tables call (ledger_flaw l) free).kept),
-      rw (h.enters n).number (field_inside call.«record» 39),
+      foreseen_inside n,
     )
 
     pub settled_booked : {m : List ℕ} → is_empty f.answer.failed ≡ true → let row = f.answer.row in

@@ -3,7 +3,7 @@
 use Prim.Native.Nat.{ℕ, suc, ◌+◌, ◌-◌, ◌*◌, ◌≤◌, ◌<◌}
 use native.Mathlib.Omega.{arith}
 use mathlib.Core.List.{List, [], ◌∷◌, ◌++◌, append-nil, append_assoc, map}
-use mathlib.Core.Path.{◌≡◌, refl, ap, sym, ◌∙◌}
+use mathlib.Core.Path.{◌≡◌, refl, ap, subst, sym, ◌∙◌}
 use borrow.Author.Tests.{le-leb}
 use lib.ListN.{length, take, drop, length-append, take-append-drop}
 use lib.Seq.{take_at, drop_at, drop-drop, length-take-le}
@@ -21,7 +21,7 @@ use Rattle.envelope.specs.declared.Piece.TheVariants.{EndsAt, Missing}
 use Rattle.envelope.specs.Pieces.{run_of}
 use Rattle.envelope.specs.Body.{Records, records, records_of, record_at, line_end}
 use Rattle.envelope.specs.Envelope.{listed}
-use Rattle.envelope.proofs.LineLaws.{lines_end, line_found, line_there, lines_split}
+use Rattle.envelope.proofs.LineLaws.{lines_end, line_placed, line_found, line_there, lines_split}
 use Rattle.calls.specs.declared.Replied.TheVariants.{Answered}
 use Rattle.calls.specs.Call.{Call, called, refusal_of}
 use Rattle.calls.specs.Rules.{rules}
@@ -52,7 +52,36 @@ module _ (k : ℕ) (w a : List ℕ) (sized : length w ≡ answer_size) (room : k
       let same : drop m (put answer_size k w a) ≡ drop m a = rw put_splits (drop_at (take (k * answer_size) a ++ w) _ m front_length) in
       rw (e, ← drop-drop (n * answer_size) m (put answer_size k w a), same) (drop-drop (n * answer_size) m a)
 
--- a record that stands ready, from its place to its end: CR LF stands behind it; its call, and its answer, written as number k
+-- what is lent of a body as its record at a place
+module _ (body : List ℕ) (at next : ℕ) (more : at < length body) (e : line_end body at ≡ EndsAt next) where
+  record_lent : take (next - 2 - at) (drop at body) ≡ record_at body at
+  record_lent =
+      let placed = line_placed body at next (omega arith) e in
+      let n : next - 2 - at ≡ run_of RecordByte (drop at body) = omega arith in
+      ap (λ (m : ℕ). take m (drop at body)) n
+
+-- the call of a record that stands ready, and its answer, written as number k
+module _ (tables : Tables) (sender body : List ℕ) (at k : ℕ) (l a : List ℕ) (h : Ready tables sender body at k l a) where
+  pub lent_admitted : {next : ℕ} → line_end body at ≡ EndsAt next → refusal_of tables (called sender (take (next - 2 - at) (drop at body))) (ledger_flaw l) ≡ 0
+  lent_admitted {next} e = ap (λ (r : List ℕ). refusal_of tables (called sender r) (ledger_flaw l)) (record_lent body at next h.more e) ∙ h.admitted
+
+  pub record_taken : {next : ℕ} (w : Answer) {m b : List ℕ} → line_end body at ≡ EndsAt next
+      → outcome (Answered w) m ≡ single (rules tables) (called sender (take (next - 2 - at) (drop at body))) l
+      → b ≡ answer_put (k * answer_size) w a → Taken tables sender body at k l a next m b
+  unfolding answer_put put answers_in
+  record_taken {next} w {m} {b} e o p =
+      let call : List ℕ → Call = called sender in
+      let done : outcome (Answered w) m ≡ single (rules tables) (call (record_at body at)) l
+      = o ∙ ap (λ (r : List ℕ). single (rules tables) (call r) l) (record_lent body at next h.more e) in
+      let bytes : answer_bytes w ≡ answers_in ((single (rules tables) (call (record_at body at)) l).reply ∷ [])
+      = sym (append-nil (answer_bytes w)) ∙ ap (λ (q : Outcome (List ℕ) (List ℕ)). answers_in (q.reply ∷ [])) done in
+      record {
+        line = e;
+        store = ap (λ (q : Outcome (List ℕ) (List ℕ)). q.store) done;
+        buffer = p ∙ rw (le-leb _ _ h.room, bytes);
+      }
+
+-- the same, of a record from its place to its end: CR LF stands behind it
 module _ (tables : Tables) (sender body : List ℕ) (at k : ℕ) (l a : List ℕ) (h : Ready tables sender body at k l a) {end : ℕ}
     (e : end ≡ at + run_of RecordByte (drop at body)) where
   found : (line_end body at ≡ EndsAt (end + 2)) × (end + 2 ≤ length body)
@@ -61,26 +90,19 @@ module _ (tables : Tables) (sender body : List ℕ) (at k : ℕ) (l a : List ℕ
   pub end_within : end + 2 ≤ length body
   end_within = found.1
 
-  record_lent : take (end - at) (drop at body) ≡ record_at body at
-  record_lent = let n : end - at ≡ run_of RecordByte (drop at body) = omega arith in ap (λ (m : ℕ). take m (drop at body)) n
+  back : end + 2 - 2 ≡ end
+  back = omega arith
 
-  pub lent_admitted : refusal_of tables (called sender (take (end - at) (drop at body))) (ledger_flaw l) ≡ 0
-  lent_admitted = ap (λ (r : List ℕ). refusal_of tables (called sender r) (ledger_flaw l)) record_lent ∙ h.admitted
+  pub end_admitted : refusal_of tables (called sender (take (end - at) (drop at body))) (ledger_flaw l) ≡ 0
+  end_admitted =
+      subst (λ (n : ℕ). refusal_of tables (called sender (take (n - at) (drop at body))) (ledger_flaw l) ≡ 0) back
+      (lent_admitted tables sender body at k l a h found.0)
 
-  pub record_taken : (w : Answer) {m b : List ℕ} → outcome (Answered w) m ≡ single (rules tables) (called sender (take (end - at) (drop at body))) l
+  pub end_taken : (w : Answer) {m b : List ℕ} → outcome (Answered w) m ≡ single (rules tables) (called sender (take (end - at) (drop at body))) l
       → b ≡ answer_put (k * answer_size) w a → Taken tables sender body at k l a (end + 2) m b
-  unfolding answer_put put answers_in
-  record_taken w {m} {b} o p =
-      let call : List ℕ → Call = called sender in
-      let done : outcome (Answered w) m ≡ single (rules tables) (call (record_at body at)) l
-      = o ∙ ap (λ (r : List ℕ). single (rules tables) (call r) l) record_lent in
-      let bytes : answer_bytes w ≡ answers_in ((single (rules tables) (call (record_at body at)) l).reply ∷ [])
-      = sym (append-nil (answer_bytes w)) ∙ ap (λ (q : Outcome (List ℕ) (List ℕ)). answers_in (q.reply ∷ [])) done in
-      record {
-        line = found.0;
-        store = ap (λ (q : Outcome (List ℕ) (List ℕ)). q.store) done;
-        buffer = p ∙ rw (le-leb _ _ h.room, bytes);
-      }
+  end_taken w {m} o p =
+      let o : outcome (Answered w) m ≡ single (rules tables) (called sender (take (end + 2 - 2 - at) (drop at body))) l = rw back o in
+      record_taken tables sender body at k l a h w found.0 o p
 
 module _ (tables : Tables) where
   -- what the calls that are left bring, after k answers

@@ -1,12 +1,12 @@
 -- Laws of the exported calls: their replies as numbers, and what they leave.
 -- Assumes nothing.
-use Prim.Native.Nat.{ℕ, ◌%◌}
+use Prim.Native.Nat.{ℕ, ◌%◌, ◌≤◌, ◌<◌}
 use native.Mathlib.Omega.{arith}
 use mathlib.Core.Bool.{Bool, true, false, cond}
 use mathlib.Core.List.{List, [], ◌∷◌}
 use mathlib.Core.Logic.{◌≢◌}
 use mathlib.Core.Path.{◌≡◌, refl, ap, sym, ◌∙◌}
-use borrow.Author.Tests.{eq-eqb, ne_eqb, eqb-true, eqb-false, le-leb, ltb-false}
+use borrow.Author.Tests.{eq-eqb, ne_eqb, eqb-true, eqb-false, lt-ltb, le-ltb, le-leb, ltb-true, ltb-false}
 use lib.Dec.{eqb, ltb}
 use lib.ListN.{length}
 use Rattle.frame.specs.Reply.{Reply, refused, accepted, refusal_in}
@@ -16,6 +16,7 @@ use Rattle.identifier.specs.Isin.{letter_sum}
 use Rattle.identifier.proofs.IsinLaws.{letter_sum_lem}
 use Rattle.tables.specs.Tables.{Tables}
 use Rattle.ledger.specs.Sound.{ledger_flaw}
+use Rattle.answer.specs.declared.Answer.{Answer}
 use Rattle.answer.specs.Answer.{answer_size, answer_bytes, answer_put}
 use Rattle.page.specs.Page.{WriteOutcome, write_outcome, wrote_into}
 use Rattle.error_file.specs.declared.Wrote.{Wrote}
@@ -37,41 +38,51 @@ short_refused h q = q ∙ rw (ne_eqb _ 0 h) refl
 pub short_free : {n : ℕ} → n ≡ 0 → 12 ≡ short_number n
 short_free z = rw (eq-eqb _ 0 z) refl
 
--- the two returns of a call of one record, by its number: its buffer is too short, or its reply is told
-module _ {number : ℕ} {o : Outcome (List ℕ) (List ℕ)} (l : List ℕ) (decided : Decided number o l) (a : List ℕ) {short : Bool}
-    (s : short ≡ ltb (length a) answer_size) where
-  pub short_exported : {n r : ℕ} → short ≡ true → r ≡ short_number n → n ≡ number → exported r l a [] ≡ single_export o l a
+-- the three returns of a call of one record, by its number
+module _ {number : ℕ} {o : Outcome (List ℕ) (List ℕ)} (l : List ℕ) (decided : Decided number o l) (a : List ℕ) where
+  pub short_exported : {r : ℕ} → length a < answer_size → r ≡ short_number number → exported r l a [] ≡ single_export o l a
   unfolding single_export
-  short_exported h r n = ap (λ (k : ℕ). exported k l a []) (r ∙ ap short_number n) ∙ go (eqb number 0) refl
+  short_exported {r} h e = ap (λ (n : ℕ). exported n l a []) e ∙ go (eqb number 0) refl
     where
       go : (b : Bool) → eqb number 0 ≡ b → exported (cond b 12 number) l a [] ≡ single_reply o l a o.reply
-      go true q = let w = decided.answers (eqb-true _ _ q) in rw (w.1, ← s, h) refl
+      go true q = let w = decided.answers (eqb-true _ _ q) in rw (w.1, lt-ltb _ _ h) refl
       go false q = rw (decided.refuses (eqb-false _ _ q)) refl
+
+  pub refused_exported : {r : Replied} {n k : ℕ} (m : List ℕ) → r ≡ Refused n → outcome r m ≡ o → k ≡ n → exported k m a [] ≡ single_export o l a
+  unfolding single_export
+  refused_exported {r} {n} m q e w = ap (λ (k : ℕ). exported k m a []) w ∙ go (ap (λ (x : Replied). outcome x m) (sym q) ∙ e) (eqb number 0) refl
+    where
+      go : outcome (Refused n) m ≡ o → (b : Bool) → eqb number 0 ≡ b → exported n m a [] ≡ single_reply o l a o.reply
+      go e true q =
+          let w = decided.answers (eqb-true _ _ q) in
+          let z : refused n ≡ accepted w.0 = ap (λ (x : Outcome (List ℕ) (List ℕ)). x.reply) e ∙ w.1 in
+          let y : ◌≡◌ {A = ℕ} 0 1 = cc in
+          absurd (omega arith)
+      go e false q =
+          let same : m ≡ l = ap (λ (x : Outcome (List ℕ) (List ℕ)). x.store) (e ∙ decided.refuses (eqb-false _ _ q)) in
+          let told : o.reply ≡ refused n = sym (ap (λ (x : Outcome (List ℕ) (List ℕ)). x.reply) e) in
+          rw (told, same) refl
+
+  pub answered_exported : {r : Replied} (w : Answer) (m : List ℕ) {b : List ℕ} → answer_size ≤ length a → r ≡ Answered w → outcome r m ≡ o
+      → b ≡ answer_put 0 w a → exported 0 m b [] ≡ single_export o l a
+  unfolding single_export answer_put
+  answered_exported {r} w m {b} h q f p =
+      let e : outcome (Answered w) m ≡ o = ap (λ (x : Replied). outcome x m) (sym q) ∙ f in
+      let reply : o.reply ≡ accepted (answer_bytes w) = sym (ap (λ (x : Outcome (List ℕ) (List ℕ)). x.reply) e) in
+      let ledger : m ≡ o.store = ap (λ (x : Outcome (List ℕ) (List ℕ)). x.store) e in
+      rw (p, le-leb _ _ h, reply, le-ltb _ _ h, ledger) refl
+
+-- the same by what the code tests: its buffer is too short, or its reply is told
+module _ {number : ℕ} {o : Outcome (List ℕ) (List ℕ)} (l : List ℕ) (decided : Decided number o l) (a : List ℕ) {short : Bool}
+    (s : short ≡ ltb (length a) answer_size) where
+  pub short_told : {n r : ℕ} → short ≡ true → r ≡ short_number n → n ≡ number → exported r l a [] ≡ single_export o l a
+  short_told h r n = short_exported l decided a (ltb-true _ _ (sym s ∙ h)) (r ∙ ap short_number n)
 
   pub told_exported : (r : Replied) (m : List ℕ) {k : ℕ} {b : List ℕ} → short ≡ false → outcome r m ≡ o
       → (k ≡ refusal_in (replied_as r)) × (b ≡ told_into r a) → exported k m b [] ≡ single_export o l a
-  unfolding single_export answer_put
-  told_exported r m h e (k, b) = (λ i. exported (k i) m (b i) []) ∙ go r e
-    where
-      go : (r : Replied) → outcome r m ≡ o → exported (refusal_in (replied_as r)) m (told_into r a) [] ≡ single_reply o l a o.reply
-      go (Refused n) e = refuses (eqb number 0) refl
-        where
-          told : o.reply ≡ refused n
-          told = sym (ap (λ (x : Outcome (List ℕ) (List ℕ)). x.reply) e)
-
-          refuses : (f : Bool) → eqb number 0 ≡ f → exported n m a [] ≡ single_reply o l a o.reply
-          refuses true q =
-              let w = decided.answers (eqb-true _ _ q) in
-              let z : refused n ≡ accepted w.0 = sym told ∙ w.1 in
-              let y : ◌≡◌ {A = ℕ} 0 1 = cc in
-              absurd (omega arith)
-          refuses false q =
-              let same : m ≡ l = ap (λ (x : Outcome (List ℕ) (List ℕ)). x.store) (e ∙ decided.refuses (eqb-false _ _ q)) in
-              rw (told, same) refl
-      go (Answered w) e =
-          let reply : o.reply ≡ accepted (answer_bytes w) = sym (ap (λ (x : Outcome (List ℕ) (List ℕ)). x.reply) e) in
-          let ledger : m ≡ o.store = ap (λ (x : Outcome (List ℕ) (List ℕ)). x.store) e in
-          rw (le-leb _ _ (ltb-false _ _ (sym s ∙ h)), reply, ← s, h, ledger) refl
+  told_exported (Refused n) m {k = r} h e (k, b) = ap (λ (c : List ℕ). exported r m c []) b ∙ refused_exported l decided a m refl e k
+  told_exported (Answered w) m {b = c} h e (k, b) =
+      ap (λ (n : ℕ). exported n m c []) k ∙ answered_exported l decided a w m (ltb-false _ _ (sym s ∙ h)) refl e b
 
 -- a refused file call leaves ledger and buffer
 pub file_kept : (tables : Tables) (file l a : List ℕ) (n : ℕ) → (file_of tables file l a).reply ≡ refused n

@@ -25,7 +25,7 @@ const LINE_ROOM: usize = 32770;
 // How much of standard input is read at a time, at most.
 const CHUNK_ROOM: usize = 65536;
 
-// Room for each line that is printed, whatever its numbers (`line-most`, crates/results/proofs/RoomLaws.antt): none is cut.
+// Room for each line that is printed, whatever its numbers (`line_most`, crates/results/proofs/RoomLaws.antt): none is cut.
 const PAGE_ROOM: usize = 68;
 
 // A proved loop has to end, and nothing says that standard input does: no run makes so many reads.

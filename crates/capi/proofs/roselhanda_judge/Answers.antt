@@ -1,10 +1,10 @@
 use Rattle.calls.proofs.JudgingLaws.{judged_decided}
-use Rattle.capi.proofs.ExportLaws.{short_exported, told_exported}
+use Rattle.capi.proofs.ExportLaws.{short_told, told_exported}
 use Rattle.capi.proofs.roselhanda_judge.Goals as goal
 
 pub returns-then-is_short : goal.returns-then-is_short
 returns-then-is_short c =
-    short_exported _ (judged_decided _ _ _) _ c.is_short.ensures c.if-is_short.true
+    short_told _ (judged_decided _ _ _) _ c.is_short.ensures c.if-is_short.true
     c.short_number.ensures c.refusal.ensures
 
 pub returns : goal.returns

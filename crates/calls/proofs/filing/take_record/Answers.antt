@@ -1,7 +1,7 @@
 use Prim.Native.Nat.{◌+◌, ◌≤◌}
 use native.Mathlib.Omega.{arith}
 use lib.ListN.{length}
-use Rattle.calls.proofs.TakingLaws.{end_within, lent_admitted, record_taken}
+use Rattle.calls.proofs.TakingLaws.{end_within, end_admitted, end_taken}
 use Rattle.calls.proofs.filing.take_record.Goals as goal
 
 pub slice_bounds-admitted-end : goal.slice_bounds-admitted-end
@@ -10,7 +10,7 @@ slice_bounds-admitted-end c =
     omega (arith, within)
 
 pub admitted-a-requires : goal.admitted-a-requires
-admitted-a-requires c = lent_admitted _ _ _ _ _ _ _ c.requires c.record_end-end.ensures
+admitted-a-requires c = end_admitted _ _ _ _ _ _ _ c.requires c.record_end-end.ensures
 
 pub overflow_add-result : goal.overflow_add-result
 overflow_add-result c =
@@ -19,5 +19,5 @@ overflow_add-result c =
 
 pub returns : goal.returns
 returns c =
-    record_taken _ _ _ _ _ _ _ c.requires c.record_end-end.ensures _ c.admitted-a.ensures
+    end_taken _ _ _ _ _ _ _ c.requires c.record_end-end.ensures _ c.admitted-a.ensures
     c.write.ensures
