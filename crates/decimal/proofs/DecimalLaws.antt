@@ -21,8 +21,7 @@ use Rattle.text.proofs.ByteLaws.{digit_high, take_rest}
 use Rattle.text.proofs.NumberLaws.{digit_more, below_power}
 use Rattle.decimal.specs.Decimal.{digits_value_after, digits_value, digits_up_to, amount_of, whole_only, whole_and_part, decimal_at, decimal_of, value_of}
 use Rattle.decimal.specs.declared.Amount.{Amount}
-use Rattle.decimal.specs.declared.Decimal.{Decimal}
-use Rattle.decimal.specs.declared.Decimal.TheVariants.{Value, Malformed}
+use Rattle.std.specs.Prelude.{Option, Some, None}
 
 -- a number of up to nineteen digits fits a word; and so does one of fewer with a digit more
 pub fits_word : {x i : ℕ} → x < 10 ^ i → i ≤ 19 → x < 2 ^ 64
@@ -76,38 +75,38 @@ both_below w f n e g l =
 
 -- the cases of the form
 pub whole_yes : (m n : ℕ) (w : List ℕ) {r : ℕ} {a : Amount} → digits_up_to m w ≡ true → r ≡ digits_value w * 10 ^ n → a ≡ amount_of (r + 0)
-    → Value a ≡ whole_only m n w
+    → Some a ≡ whole_only m n w
 unfolding whole_only
 whole_yes m n w e q told = rw (e, told, add-zero, q) refl
 
-pub whole_no : (m n : ℕ) (w : List ℕ) → digits_up_to m w ≡ false → Malformed ≡ whole_only m n w
+pub whole_no : (m n : ℕ) (w : List ℕ) → digits_up_to m w ≡ false → None ≡ whole_only m n w
 unfolding whole_only
 whole_no m n w e = rw e refl
 
 pub both_yes : (m n : ℕ) (w f : List ℕ) {r q : ℕ} {a : Amount} → digits_up_to m w && digits_up_to n f ≡ true
-    → r ≡ digits_value w * 10 ^ n → q ≡ digits_value f * 10 ^ (n - length f) → a ≡ amount_of (r + q) → Value a ≡ whole_and_part m n w f
+    → r ≡ digits_value w * 10 ^ n → q ≡ digits_value f * 10 ^ (n - length f) → a ≡ amount_of (r + q) → Some a ≡ whole_and_part m n w f
 unfolding whole_and_part
 both_yes m n w f e p q told = rw (e, told, p, q) refl
 
-pub both_no : (m n : ℕ) (w f : List ℕ) → digits_up_to m w && digits_up_to n f ≡ false → Malformed ≡ whole_and_part m n w f
+pub both_no : (m n : ℕ) (w f : List ℕ) → digits_up_to m w && digits_up_to n f ≡ false → None ≡ whole_and_part m n w f
 unfolding whole_and_part
 both_no m n w f e = rw e refl
 
-pub too_wide : (m n : ℕ) (s : List ℕ) → 19 < m + n → Malformed ≡ decimal_of m n s
+pub too_wide : (m n : ℕ) (s : List ℕ) → 19 < m + n → None ≡ decimal_of m n s
 unfolding decimal_of
 too_wide m n s h = rw (lt-leb _ _ h) refl
 
-pub with_part : (m n k : ℕ) (s : List ℕ) {r : Decimal} → m + n ≤ 19 → k ≡ position_of 44 s → k < length s
+pub with_part : (m n k : ℕ) (s : List ℕ) {r : Option Amount} → m + n ≤ 19 → k ≡ position_of 44 s → k < length s
     → r ≡ whole_and_part m n (take k s) (take (length s - (k + 1)) (drop (k + 1) s)) → r ≡ decimal_of m n s
 unfolding decimal_of decimal_at
 with_part m n k s h e l q = rw (le-leb _ _ h, ← e, lt-ltb _ _ l) (rw take_rest at q)
 
-pub no_part : (m n k : ℕ) (s : List ℕ) {r : Decimal} → m + n ≤ 19 → k ≡ position_of 44 s → length s ≤ k → r ≡ whole_only m n s → r ≡ decimal_of m n s
+pub no_part : (m n k : ℕ) (s : List ℕ) {r : Option Amount} → m + n ≤ 19 → k ≡ position_of 44 s → length s ≤ k → r ≡ whole_only m n s → r ≡ decimal_of m n s
 unfolding decimal_of decimal_at
 no_part m n k s h e l q = rw (le-leb _ _ h, ← e, le-ltb _ _ l) q
 
 -- what is read where a test passes
-when_passed : (P : Amount → Type 0) (b : Bool) {x : ℕ} {a : Amount} → (b ≡ true → P (amount_of x)) → cond b (Value (amount_of x)) Malformed ≡ Value a → P a
+when_passed : (P : Amount → Type 0) (b : Bool) {x : ℕ} {a : Amount} → (b ≡ true → P (amount_of x)) → cond b (Some (amount_of x)) None ≡ Some a → P a
 when_passed P true {x} {a} h e = let q : amount_of x ≡ a = cc e in rw q at (h refl)
 when_passed P false h e = let q : ◌≡◌ {A = ℕ} 0 1 = cc e in absurd (omega arith)
 
@@ -115,7 +114,7 @@ when_passed P false h e = let q : ◌≡◌ {A = ℕ} 0 1 = cc e in absurd (omeg
 pub by_form : (m n : ℕ) (s : List ℕ) (P : Amount → Type 0) → (digits_up_to m s ≡ true → P (amount_of (digits_value s * 10 ^ n)))
     → ((k : ℕ) → k ≡ position_of (code ",") s → k < length s → digits_up_to m (take k s) ≡ true → digits_up_to n (drop (k + 1) s) ≡ true
     → P (amount_of (both_value n (take k s) (drop (k + 1) s))))
-    → {a : Amount} → decimal_of m n s ≡ Value a → P a
+    → {a : Amount} → decimal_of m n s ≡ Some a → P a
 unfolding decimal_of decimal_at whole_only whole_and_part
 by_form m n s P whole both {a} = go (leb (m + n) 19) (ltb k (length s)) refl
   where
@@ -126,7 +125,7 @@ by_form m n s P whole both {a} = go (leb (m + n) 19) (ltb k (length s)) refl
     w = digits_up_to m (take k s)
 
     go : (fits comma : Bool) → ltb k (length s) ≡ comma
-        → cond fits (cond comma (whole_and_part m n (take k s) (drop (k + 1) s)) (whole_only m n s)) Malformed ≡ Value a → P a
+        → cond fits (cond comma (whole_and_part m n (take k s) (drop (k + 1) s)) (whole_only m n s)) None ≡ Some a → P a
     go true true e = when_passed P (w && digits_up_to n (drop (k + 1) s)) (λ t. both k refl (ltb-true _ _ e) (and_left w _ t) (and_right w _ t))
     go true false e = when_passed P (digits_up_to m s) whole
     go false comma e = when_passed P false {x = 0} (λ t. absurd (false≢true t))
@@ -138,9 +137,9 @@ digits_below m n k h l = below_power 9 h (omega arith)
 pub value_below : (m n : ℕ) (s : List ℕ) → value_of (decimal_of m n s) < 10 ^ (m + n)
 value_below m n s = go (decimal_of m n s) refl
   where
-    go : (d : Decimal) → decimal_of m n s ≡ d → value_of d < 10 ^ (m + n)
-    go (Value a) e =
+    go : (d : Option Amount) → decimal_of m n s ≡ d → value_of d < 10 ^ (m + n)
+    go (Some a) e =
         by_form m n s (λ b. b.value < 10 ^ (m + n)) (λ e. digits_below m n (length s) (scaled_below s n (upto_digits m s e)) (upto_length m s e))
         (λ k at h p q.
         digits_below m n (length (take k s)) (both_below (take k s) _ n (upto_digits m _ p) (upto_digits n _ q) (upto_length n _ q)) (upto_length m _ p)) e
-    go Malformed e = one-le-pow (m + n) 10 (lit< tt)
+    go None e = one-le-pow (m + n) 10 (lit< tt)

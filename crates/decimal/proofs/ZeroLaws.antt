@@ -18,15 +18,15 @@ use Rattle.text.specs.Bytes.{all, position_of}
 use Rattle.text.proofs.ByteLaws.{all_around, digit_low}
 use Rattle.decimal.specs.Decimal.{digits_value_after, digits_value, digits_up_to, decimal_of, every_digit_zero}
 use Rattle.decimal.specs.declared.Amount.{Amount}
-use Rattle.decimal.specs.declared.Decimal.TheVariants.{Value}
+use Rattle.std.specs.Prelude.{Some}
 use Rattle.decimal.proofs.DecimalLaws.{both_value, by_form, upto_digits}
 
 -- The reader tells of every value whether it is zero.
-pub zero_told : (m n : ℕ) (s : List ℕ) {a : Amount} → decimal_of m n s ≡ Value a → a.zero ≡ eqb a.value 0
+pub zero_told : (m n : ℕ) (s : List ℕ) {a : Amount} → decimal_of m n s ≡ Some a → a.zero ≡ eqb a.value 0
 zero_told m n s = by_form m n s (λ b. b.zero ≡ eqb b.value 0) (λ e. refl) (λ k at h p q. refl)
 
 -- a value that is told not to be zero is above it
-pub above_zero : (m n : ℕ) (s : List ℕ) {a : Amount} → decimal_of m n s ≡ Value a → a.zero ≡ false → 0 < a.value
+pub above_zero : (m n : ℕ) (s : List ℕ) {a : Amount} → decimal_of m n s ≡ Some a → a.zero ≡ false → 0 < a.value
 above_zero m n s {a} e told = let some : a.value ≢ 0 = eqb-false _ _ (sym (zero_told m n s e) ∙ told) in omega arith
 
 -- when sums and multiples are zero
@@ -70,7 +70,7 @@ unfolding every_digit_zero
 comma_sides k s at h = rw at (all_around _ (code ",") refl s (rw at at h))
 
 -- The reader tells zero exactly where every digit is 0.
-pub zero_digits : (m n : ℕ) (s : List ℕ) {a : Amount} → decimal_of m n s ≡ Value a → a.zero ≡ every_digit_zero s
+pub zero_digits : (m n : ℕ) (s : List ℕ) {a : Amount} → decimal_of m n s ≡ Some a → a.zero ≡ every_digit_zero s
 zero_digits m n s = by_form m n s (λ b. b.zero ≡ every_digit_zero s) (λ e. scaled_zero s n (upto_digits m s e)) both
   where
     both : (k : ℕ) → k ≡ position_of (code ",") s → k < length s → digits_up_to m (take k s) ≡ true → digits_up_to n (drop (k + 1) s) ≡ true

@@ -15,13 +15,6 @@ pub struct Amount {
     pub zero: bool,
 }
 
-// What reading a decimal finds.
-#[derive(Clone, Copy)]
-pub enum Decimal {
-    Value(Amount),
-    Malformed,
-}
-
 const POWERS: [u64; 20] = [
     1,
     10,
@@ -97,44 +90,44 @@ fn amount_of(whole: u64, part: u64) -> Amount
 {
     let value = whole + part;
     Amount {
-        value: value,
+        value,
         zero: value == 0,
     }
 }
 
 // The digits w, without a comma.
-fn read_whole(w: &[u8], m: usize, n: usize) -> Decimal
+fn read_whole(w: &[u8], m: usize, n: usize) -> Option<Amount>
     requires { m + n ≤ 19 }
     ensures { result ≡ whole_only m n w.now }
 {
     if is_digits(w, m) {
-        Decimal::Value(amount_of(scaled(w, n), 0))
+        Some(amount_of(scaled(w, n), 0))
     } else {
-        Decimal::Malformed
+        None
     }
 }
 
 // The digits w, a comma and the digits f.
-fn read_both<'a>(w: &'a [u8], f: &'a [u8], m: usize, n: usize) -> Decimal
+fn read_both(w: &[u8], f: &[u8], m: usize, n: usize) -> Option<Amount>
     requires { m + n ≤ 19 }
     ensures { result ≡ whole_and_part m n w.now f.now }
 {
     if is_digits(w, m) & is_digits(f, n) {
-        Decimal::Value(amount_of(scaled(w, n), scaled(f, n - f.len())))
+        Some(amount_of(scaled(w, n), scaled(f, n - f.len())))
     } else {
-        Decimal::Malformed
+        None
     }
 }
 
-// The value of s read as Nm,n; malformed too where m and n are together over 19.
-pub fn read(s: &[u8], m: usize, n: usize) -> Decimal
+// The value of s read as Nm,n; none where s is malformed, or m and n are together over 19.
+pub fn read(s: &[u8], m: usize, n: usize) -> Option<Amount>
     ensures { result ≡ decimal_of m n s.now }
 {
     if m > 19 {
-        return Decimal::Malformed;
+        return None;
     }
     if n > 19 - m {
-        return Decimal::Malformed;
+        return None;
     }
     let k = text::position(s, b',');
     if k < s.len() {
