@@ -10,7 +10,10 @@ ghost use Rattle.tables.specs.Reporters.{reporter_count, reporter_at, code_of, a
 ghost use Rattle.tables.specs.Reporters.{reporters_differ, reporter_ok, reporters_ok, has_code, has_address, has_mailbox, has_by, first_row_by};
 ghost use Rattle.tables.specs.Reporters.{row_by_code, row_by_address};
 ghost use Rattle.tables.specs.Currencies.{currency_size, currency_count, currency_at, is_special, currency_ok, currencies_ok, found_money};
+ghost use Rattle.refusal.specs.Refusal.{number_in};
+ghost use Rattle.tables.specs.Tables.{tables_flaw, lent};
 
+use refusal::Refusal;
 use text::{Class, Order};
 
 // Bytes of a row of the reporters table, and the most rows that it may have.
@@ -305,4 +308,26 @@ pub fn is_money<'a>(t: &'a [u8], s: &'a [u8]) -> bool
         }
     }
     false
+}
+
+// The two tables that every call is lent.
+#[derive(Clone, Copy)]
+pub struct Tables<'a> {
+    pub reporters: &'a [u8],
+    pub currencies: &'a [u8],
+}
+
+impl Tables<'_> {
+    // Why they refuse a call: the reporters table is not in order, or else the currency list.
+    pub fn check(self) -> Result<(), Refusal>
+        ensures { number_in result ≡ tables_flaw (lent self.entry) }
+    {
+        if !reporters_ok(self.reporters) {
+            return Err(Refusal::Reporters);
+        }
+        if !currencies_ok(self.currencies) {
+            return Err(Refusal::Currencies);
+        }
+        Ok(())
+    }
 }
