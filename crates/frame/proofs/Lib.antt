@@ -8,3 +8,4 @@ pub mod Isolation
 pub mod Consequences
 pub mod PigeonLaws
 pub mod EarlierLaws
+pub mod ListLaws
