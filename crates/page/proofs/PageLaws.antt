@@ -1,16 +1,16 @@
 -- Laws of a text that is written piece by piece.
 -- Assumes nothing.
 use Prim.Native.Nat.{ℕ, suc, ◌+◌, ◌≤◌, ◌<◌}
-use native.Mathlib.Numerals.{add-one}
 use native.Mathlib.Omega.{arith}
-use native.Mathlib.Nat.{zero-add, add-zero}
+use native.Mathlib.Nat.{zero-add}
+use native.Mathlib.Decide.{dec_lt}
 use mathlib.Core.Bool.{Bool, true, false, cond}
 use mathlib.Core.List.{List, [], ◌∷◌, ◌++◌}
 use mathlib.Core.Path.{◌≡◌, refl, ap, sym, ◌∙◌, subst}
 use borrow.Author.Tests.{lt-ltb, le-ltb, ltb-true, le-leb, lt-leb}
 use lib.Dec.{ltb}
-use lib.ListN.{length, get_or, take, drop, set, length-set, drop_of_length-le}
-use lib.Seq.{drop-cons, sets, sets-eq}
+use lib.ListN.{length, take, drop, set, length-set, length-append, length-take, length-drop, take-append-drop, drop_of_length-le}
+use lib.Seq.{sets, sets-eq}
 use Rattle.frame.specs.Reply.{refused, accepted}
 use Rattle.frame.proofs.ReplyLaws.{past_holds, past_fails}
 use Rattle.page.specs.Page.{Page, page, typed, appended, write_outcome, wrote_into, fitted}
@@ -69,22 +69,7 @@ appended_byte : (s : List ℕ) (at b : ℕ) (t : List ℕ) → at < length s →
 unfolding appended
 appended_byte s at b t h = ap (λ (room : Bool). appended (cond room (page (set s at b) (suc at)) (page s at)) t) (lt-ltb at (length s) h)
 
--- what a loop knows that writes a text byte by byte
-pub appended_more : (s : List ℕ) (at : ℕ) (t : List ℕ) (i : ℕ) {p : Page} → at < length s → i < length t → appended (page s at) (drop i t) ≡ p
-    → appended (page (set s at (get_or t i 0)) (at + 1)) (drop (i + 1) t) ≡ p
-appended_more s at t i h g e =
-    rw (add-one at, add-one i) (sym (appended_byte s at (get_or t i 0) (drop (suc i) t) h) ∙ ap (appended (page s at)) (sym (drop-cons t i 0 g)) ∙ e)
-
--- the same where the place is told by what is written already
-pub copy_start : (s : List ℕ) (at : ℕ) (t : List ℕ) → appended (page s (at + 0)) t ≡ appended (page s at) t
-copy_start s at t = ap (λ (k : ℕ). appended (page s k) t) (add-zero at)
-
-pub copy_more : (s : List ℕ) (at : ℕ) (t : List ℕ) (i : ℕ) {p : Page} → at + i < length s → i < length t → appended (page s (at + i)) (drop i t) ≡ p
-    → appended (page (set s (at + i) (get_or t i 0)) (at + (i + 1))) (drop (i + 1) t) ≡ p
-copy_more s at t i h g e =
-    let next : at + (i + 1) ≡ at + i + 1 = omega arith in
-    ap (λ (k : ℕ). appended (page (set s (at + i) (get_or t i 0)) k) (drop (i + 1) t)) next ∙ appended_more s (at + i) t i h g e
-
+-- nothing more of a text is nothing
 pub appended_done : {q p : Page} (t : List ℕ) (i : ℕ) → length t ≤ i → appended q (drop i t) ≡ p → q ≡ p
 unfolding appended
 appended_done {q} t i h e = ap (appended q) (sym (drop_of_length-le t {i = i} h)) ∙ e
@@ -100,6 +85,26 @@ appended_sets s at (b ∷ t) h =
 pub appended_room : (s : List ℕ) (at : ℕ) (t : List ℕ) → at + length t ≤ length s
     → appended (page s at) t ≡ page (take at s ++ t ++ drop (at + length t) s) (at + length t)
 appended_room s at t h = appended_sets s at t h ∙ ap (λ (l : List ℕ). page l (at + length t)) (sets-eq t s at h)
+
+-- where n bytes of it have room and no more, those stand on the page, and nothing else is changed
+module _ (s : List ℕ) (at : ℕ) (t : List ℕ) (n : ℕ) (some : n ≤ length t) (room : at + n ≤ length s) (full : n < length t → length s ≤ at + n) where
+  abbrev cut : List ℕ
+  cut = take at s ++ take n t ++ drop (at + n) s
+
+  first : appended (page s at) (take n t) ≡ page cut (at + n)
+  first =
+      let len : length (take n t) ≡ n = omega (arith, length-take n t) in
+      appended_room s at (take n t) (rw len room) ∙ ap (λ (m : ℕ). page (take at s ++ take n t ++ drop (at + m) s) (at + m)) len
+
+  others : Dec (n < length t) → page cut (at + n) ≡ appended (page cut (at + n)) (drop n t)
+  others (yes lt) = appended_full cut (at + n) (drop n t) (simp (length-append, length-take, length-drop) (omega (arith, full lt)))
+  others (no ge) = appended_done t n (omega arith) refl
+
+  pub appended_cut : page cut (at + n) ≡ appended (page s at) t
+  appended_cut =
+      others (dec_lt n (length t))
+      ∙ (ap (λ (p : Page). appended p (drop n t)) (sym first) ∙ appended_both (page s at) (take n t) (drop n t))
+      ∙ ap (appended (page s at)) (take-append-drop n t)
 
 -- so a text that has room is written into the buffer, and its length told; one that has not is refused
 module _ (s t : List ℕ) where

@@ -1,80 +1,91 @@
-// Text that is put together piece by piece in a lent buffer: a page, and where its text ends.
+// Text that is put together piece by piece in a lent buffer.
 #![tactic(auto)]
 
-ghost use Rattle.std.specs.Prelude.{◌≡◌, ◌+◌, ◌%◌, ◌≤◌, length};
+ghost use Rattle.std.specs.Prelude.{◌≡◌, ◌%◌, take};
 ghost use Rattle.io.specs.Digits.{hex_digit_ascii};
+ghost use Rattle.page.specs.Lent.{with_text};
 ghost use Rattle.page.specs.Page.{page, appended};
 ghost use Rattle.page.specs.Number.{number_text, code_text};
 
-// Writes a piece from a place on that has room for it, and answers where it ends: without a test for each byte it is copied in wide steps.
-fn copy(out: &mut [u8], at: usize, piece: &[u8]) -> usize
-    requires { at + length piece.now ≤ length out.old }
-    ensures { page out.new result ≡ appended (page out.old at) piece.now }
-{
-    let mut i = 0;
-    while i < piece.len() {
-        out[at + i] = piece[i];
-        i += 1;
-    }
-    at + i
+// A page: a lent buffer, and where its text ends.
+#[derive(Drop)]
+pub struct Page<'a> {
+    pub room: &'a mut [u8],
+    pub end: usize,
 }
 
-// Writes a piece from a place on, as far as there is room, and answers where it ends.
-fn append_cut(out: &mut [u8], at: usize, piece: &[u8]) -> usize
-    ensures { page out.new result ≡ appended (page out.old at) piece.now }
-{
-    let mut end = at;
-    let mut i = 0;
-    while i < piece.len() {
-        if out.len() <= end {
-            return end;
-        }
-        out[end] = piece[i];
-        end += 1;
-        i += 1;
-    }
-    end
-}
-
-// Writes a piece from a place on, as far as there is room, and answers where it ends. Most often there is room for all of it.
-pub fn append(out: &mut [u8], at: usize, piece: &[u8]) -> usize
-    ensures { page out.new result ≡ appended (page out.old at) piece.now }
-{
-    if at <= out.len() {
-        if piece.len() <= out.len() - at {
-            return copy(out, at, piece);
+impl Page<'_> {
+    // Writes a piece behind the text, as far as there is room.
+    pub fn append(&mut self, piece: &[u8])
+        ensures { self.new ≡ with_text self.old piece.now }
+    {
+        if self.end < self.room.len() {
+            let n = piece.len().min(self.room.len() - self.end);
+            self.room[self.end..self.end + n].copy_from_slice(&piece[..n]);
+            self.end += n;
         }
     }
-    append_cut(out, at, piece)
-}
 
-// Writes a number in as many decimal digits as it has.
-pub fn append_number(out: &mut [u8], at: usize, n: u64) -> usize
-    ensures { page out.new result ≡ appended (page out.old at) (number_text n) }
-{
-    let mut digits = [0u8; 20];
-    let k = io::decimal(n, &mut digits);
-    append(out, at, &digits[..k])
+    // Writes a number in as many decimal digits as it has.
+    pub fn append_number(&mut self, n: u64)
+        ensures { self.new ≡ with_text self.old (number_text n) }
+    {
+        let mut digits = [0u8; 20];
+        let k = io::decimal(n, &mut digits);
+        self.append(&digits[..k]);
+    }
+
+    // Writes a code in four decimal digits.
+    pub fn append_code(&mut self, code: u16)
+        ensures { self.new ≡ with_text self.old (code_text code) }
+    {
+        let tens = code / 10;
+        let hundreds = tens / 10;
+        let digits = [
+            digit(hundreds / 10),
+            digit(hundreds),
+            digit(tens),
+            digit(code),
+        ];
+        self.append(&digits);
+    }
+
+    // The text that stands in the buffer.
+    pub fn text(&self) -> &[u8]
+        ensures { result.now ≡ take self.now.end self.now.room.now }
+    {
+        &self.room[..self.end.min(self.room.len())]
+    }
 }
 
 // The last decimal digit of a number, as text.
 fn digit(n: u16) -> u8
     ensures { result ≡ hex_digit_ascii (n % 10) }
 {
-    48 + (n % 10) as u8
+    b'0' + (n % 10) as u8
 }
 
-// Writes a code in four decimal digits.
+// The three below go when nobody calls them any more.
+pub fn append(out: &mut [u8], at: usize, piece: &[u8]) -> usize
+    ensures { page out.new result ≡ appended (page out.old at) piece.now }
+{
+    let mut page = Page { room: out, end: at };
+    page.append(piece);
+    page.end
+}
+
+pub fn append_number(out: &mut [u8], at: usize, n: u64) -> usize
+    ensures { page out.new result ≡ appended (page out.old at) (number_text n) }
+{
+    let mut page = Page { room: out, end: at };
+    page.append_number(n);
+    page.end
+}
+
 pub fn append_code(out: &mut [u8], at: usize, code: u16) -> usize
     ensures { page out.new result ≡ appended (page out.old at) (code_text code) }
 {
-    let tens = code / 10;
-    let hundreds = tens / 10;
-    let digits = [
-        digit(hundreds / 10),
-        digit(hundreds),
-        digit(tens),
-        digit(code),
-    ];
-    append(out, at, &digits)
+    let mut page = Page { room: out, end: at };
+    page.append_code(code);
+    page.end
 }

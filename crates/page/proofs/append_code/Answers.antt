@@ -1,9 +1,6 @@
-use mathlib.Core.Path.{refl, ◌∙◌}
-use Rattle.page.specs.Number.{code_text}
+use borrow.Author.Rules.{rules}
+use Rattle.page.proofs.LentLaws.{left_by}
 use Rattle.page.proofs.append_code.Goals as goal
 
 pub returns : goal.returns
-unfolding code_text
-returns c =
-    c.append.ensures
-    ∙ rw (c.digit.ensures, c.digit-2.ensures, c.digit-3.ensures, c.digit-4.ensures) refl
+returns c = left_by _ _ c.append_code.ensures (search rules)

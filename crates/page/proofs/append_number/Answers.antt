@@ -1,10 +1,6 @@
-use native.Mathlib.Omega.{arith}
-use mathlib.Core.Path.{ap, ◌∙◌}
-use Rattle.page.specs.Page.{appended}
-use Rattle.page.proofs.NumberLaws.{number_digits}
+use borrow.Author.Rules.{rules}
+use Rattle.page.proofs.LentLaws.{left_by}
 use Rattle.page.proofs.append_number.Goals as goal
 
 pub returns : goal.returns
-returns c =
-    let spelt = number_digits c.args.n c.decimal-k.result c.decimal-k.ensures.len (omega arith) c.decimal-k.ensures.digits in
-    c.append.ensures ∙ ap (appended _) spelt
+returns c = left_by _ _ c.append_number.ensures (search rules)
