@@ -1,5 +1,4 @@
 pub mod PieceLaws
-pub mod StageLaws
 pub mod LineLaws
 pub mod OpenedLaws
 pub mod WrittenLaws

@@ -14,14 +14,13 @@ use Rattle.frame.proofs.BoolLaws.{and_left, and_right, and_false}
 use Rattle.text.specs.declared.Class.{Class}
 use Rattle.text.specs.declared.Class.TheVariants.{RecordByte, BodyByte}
 use Rattle.text.specs.Class.{belongs_to, is_record_byte, is_body_byte}
-use Rattle.envelope.specs.declared.Piece.{Piece}
-use Rattle.envelope.specs.declared.Piece.TheVariants.{EndsAt, Missing}
-use Rattle.envelope.specs.declared.Body.{Body}
-use Rattle.envelope.specs.declared.Body.TheVariants.{Counted, Broken}
-use Rattle.envelope.specs.Pieces.{between, run_of, begins, text_end, on_piece}
+use Rattle.std.specs.Prelude.{Option, Some, None}
+use Rattle.std.proofs.lemmas.Option.{none-some}
+use Rattle.envelope.specs.declared.Span.{Span}
+use Rattle.envelope.specs.Pieces.{between, run_of, begins, text_end, on}
 use Rattle.envelope.specs.Body.{Records, broken, records, with_record, with_byte, crlf, records_of, line_end, record_at, apostrophe_from, counted, lines_at}
 use Rattle.envelope.specs.Envelope.{listed}
-use Rattle.envelope.proofs.PieceLaws.{run_within, missing_ends, picked, text_found}
+use Rattle.envelope.proofs.PieceLaws.{run_within, picked, text_found}
 
 -- the records of l, whose first line is at its front
 abbrev Stepped : List ℕ → Type 0
@@ -51,13 +50,13 @@ lines_step [] h = absurd (omega arith)
 lines_step (b ∷ []) h = alone b (is_record_byte b) refl
 lines_step (b ∷ c ∷ s) h = further b c s (is_record_byte b) refl (lines_step (c ∷ s) (omega arith))
 
-on_cond : {A : Type 0} (x : Bool) (p : ℕ) (a : A) (f : ℕ → A) → on_piece (cond x (EndsAt p) Missing) a f ≡ cond x (f p) a
+on_cond : {A : Type 0} (x : Bool) (p : ℕ) (a : A) (f : ℕ → A) → on (cond x (Some p) None) a f ≡ cond x (f p) a
 on_cond true p a f = refl
 on_cond false p a f = refl
 
 -- the record at a place of s, and the records from its line's end
 lines_at_lem : (s : List ℕ) (p : ℕ) → p < length s
-    → records_of (drop p s) ≡ on_piece (line_end s p) broken (λ q. with_record (record_at s p) (records_of (drop q s)))
+    → records_of (drop p s) ≡ on (line_end s p) broken (λ q. with_record (record_at s p) (records_of (drop q s)))
 unfolding line_end text_end
 lines_at_lem s p h =
     let n = run_of RecordByte (drop p s) in
@@ -66,33 +65,33 @@ lines_at_lem s p h =
     lines_step (drop p s) (rw length-drop (omega arith))
     ∙ rw (e, drop-drop n p s, drop-drop (n + 2) p s, f) (sym (on_cond (begins crlf (drop (p + n) s)) _ _ _))
 
-pub lines_on : (s : List ℕ) (p q : ℕ) → p < length s → line_end s p ≡ EndsAt q → records_of (drop p s) ≡ with_record (record_at s p) (records_of (drop q s))
+pub lines_on : (s : List ℕ) (p q : ℕ) → p < length s → line_end s p ≡ Some q → records_of (drop p s) ≡ with_record (record_at s p) (records_of (drop q s))
 lines_on s p q h e = lines_at_lem s p h ∙ rw e
 
-pub lines_off : (s : List ℕ) (p : ℕ) → p < length s → line_end s p ≡ Missing → records_of (drop p s) ≡ broken
+pub lines_off : (s : List ℕ) (p : ℕ) → p < length s → line_end s p ≡ None → records_of (drop p s) ≡ broken
 lines_off s p h e = lines_at_lem s p h ∙ rw e
 
 pub lines_end : (s : List ℕ) (p : ℕ) → length s ≤ p → records_of (drop p s) ≡ records []
 unfolding records_of
 lines_end s p h = rw (drop_of_length-le s h)
 
-pub line_placed : (s : List ℕ) (p q : ℕ) → p ≤ length s → line_end s p ≡ EndsAt q → (q ≡ p + run_of RecordByte (drop p s) + 2) × (q ≤ length s)
+pub line_placed : (s : List ℕ) (p q : ℕ) → p ≤ length s → line_end s p ≡ Some q → (q ≡ p + run_of RecordByte (drop p s) + 2) × (q ≤ length s)
 unfolding line_end
 line_placed s p q h e =
     let f : run_of RecordByte (drop p s) ≤ length s - p = rw length-drop at (run_within RecordByte (drop p s)) in
     text_found s (p + run_of RecordByte (drop p s)) q (omega arith) crlf e
 
 -- the line at a place, where it is there, ends with the two bytes behind its record
-pub line_found : (s : List ℕ) (p : ℕ) {e : ℕ} → p < length s → (line_end s p ≡ Missing → ⊥) → e ≡ p + run_of RecordByte (drop p s)
-    → (line_end s p ≡ EndsAt (e + 2)) × (e + 2 ≤ length s)
+pub line_found : (s : List ℕ) (p : ℕ) {e : ℕ} → p < length s → (line_end s p ≡ None → ⊥) → e ≡ p + run_of RecordByte (drop p s)
+    → (line_end s p ≡ Some (e + 2)) × (e + 2 ≤ length s)
 line_found s p {e} more there end = go (line_end s p) refl
   where
-    go : (piece : Piece) → line_end s p ≡ piece → (line_end s p ≡ EndsAt (e + 2)) × (e + 2 ≤ length s)
-    go (EndsAt q) found =
+    go : (piece : Option ℕ) → line_end s p ≡ piece → (line_end s p ≡ Some (e + 2)) × (e + 2 ≤ length s)
+    go (Some q) found =
         let placed = line_placed s p q (omega arith) found in
         let same : q ≡ e + 2 = omega arith in
-        (found ∙ ap EndsAt same, omega arith)
-    go Missing found = absurd (there found)
+        (found ∙ ap Some same, omega arith)
+    go None found = absurd (there found)
 
 -- a line that ends at a place is its record, then CR LF
 begins_front : (t l : List ℕ) → begins t l ≡ true → take (length t) l ≡ t
@@ -101,7 +100,7 @@ begins_front [] l e = refl
 begins_front (a ∷ t) [] e = absurd (false≢true e)
 begins_front (a ∷ t) (b ∷ l) e = (λ i. eqb-true b a (and_left (eqb b a) _ e) i ∷ begins_front t l (and_right (eqb b a) _ e) i)
 
-pub line_bytes : (s : List ℕ) (p q : ℕ) → line_end s p ≡ EndsAt q → take (q - p) (drop p s) ≡ record_at s p ++ crlf
+pub line_bytes : (s : List ℕ) (p q : ℕ) → line_end s p ≡ Some q → take (q - p) (drop p s) ≡ record_at s p ++ crlf
 unfolding line_end text_end
 line_bytes s p q e =
     let n = run_of RecordByte (drop p s) in
@@ -112,7 +111,7 @@ line_bytes s p q e =
 
 -- a body of the layout, seen from the start of a line: its line ends, and the records are the one at its place, and those from its end on
 module _ (s : List ℕ) (p : ℕ) (h : p < length s) (whole : records_of (drop p s) ≡ records (listed (records_of (drop p s)))) where
-  pub line_there : line_end s p ≡ Missing → ⊥
+  pub line_there : line_end s p ≡ None → ⊥
   line_there e =
       let off : records_of (drop p s) ≡ broken = lines_off s p h e in
       let z : ◌≡◌ {A = ℕ} 0 1 = cc in
@@ -123,7 +122,7 @@ module _ (s : List ℕ) (p : ℕ) (h : p < length s) (whole : records_of (drop p
   with_record_lem r broken e = let z : ◌≡◌ {A = ℕ} 0 1 = cc in absurd (omega arith)
   with_record_lem r (records rs) e = (refl, refl)
 
-  pub lines_split : (q : ℕ) → line_end s p ≡ EndsAt q
+  pub lines_split : (q : ℕ) → line_end s p ≡ Some q
       → (records_of (drop q s) ≡ records (listed (records_of (drop q s)))) × (listed (records_of (drop p s)) ≡ record_at s p ∷ listed (records_of (drop q s)))
   lines_split q e =
       let on = lines_on s p q h e in
@@ -221,57 +220,57 @@ module _ (l : List ℕ) where
       (whole, rw (whole, next) (drop_taken (record_length + 2) k l))
 
 -- What is counted from a place on: n records stand before it.
-abbrev count_from : ℕ → ℕ → ℕ → Records → Body
-count_from n first end broken = Broken
-count_from n first end (records rs) = Counted (record { first = first; end = end; records = n + length rs })
+abbrev count_from : ℕ → ℕ → ℕ → Records → Option Span
+count_from n first end broken = None
+count_from n first end (records rs) = Some (record { first = first; end = end; records = n + length rs })
 
-unfoldable pub lines_from : List ℕ → ℕ → ℕ → ℕ → Body
+unfoldable pub lines_from : List ℕ → ℕ → ℕ → ℕ → Option Span
 lines_from s first n p =
-    let end = apostrophe_from s p in cond (leb (length s) end) Broken (count_from n first end (records_of (between s p end)))
+    let end = apostrophe_from s p in cond (leb (length s) end) None (count_from n first end (records_of (between s p end)))
 
 count_none : (first end : ℕ) (l : Records) → counted first end l ≡ count_from 0 first end l
 count_none first end broken = refl
-count_none first end (records rs) = ap (λ (k : ℕ). Counted (record { first = first; end = end; records = k })) (omega arith)
+count_none first end (records rs) = ap (λ (k : ℕ). Some (record { first = first; end = end; records = k })) (omega arith)
 
 count_record : (n first end : ℕ) (r : List ℕ) (l : Records) → count_from n first end (with_record r l) ≡ count_from (n + 1) first end l
 count_record n first end r broken = refl
-count_record n first end r (records rs) = ap (λ (k : ℕ). Counted (record { first = first; end = end; records = k })) (omega arith)
+count_record n first end r (records rs) = ap (λ (k : ℕ). Some (record { first = first; end = end; records = k })) (omega arith)
 
 body_bytes : (s : List ℕ) (p : ℕ) → between s p (apostrophe_from s p) ≡ take (run_of BodyByte (drop p s)) (drop p s)
 body_bytes s p = let e : p + run_of BodyByte (drop p s) - p ≡ run_of BodyByte (drop p s) = omega arith in rw e refl
 
-absent : (x : Bool) (p : ℕ) → cond x (EndsAt p) Missing ≡ Missing → x ≡ false
-absent true p e = absurd (missing_ends p (sym e))
+absent : (x : Bool) (p : ℕ) → cond x (Some p) None ≡ None → x ≡ false
+absent true p e = absurd (none-some p (sym e))
 absent false p e = refl
 
-either : (x : Bool) → cond x Broken Broken ≡ Broken
+either : (x : Bool) → cond {A = Option Span} x None None ≡ None
 either true = refl
 either false = refl
 
 module _ (s : List ℕ) (first n p : ℕ) where
   pub count_start : lines_at s first ≡ lines_from s first 0 first
   unfolding lines_at lines_from
-  count_start = ap (cond (leb (length s) (apostrophe_from s first)) Broken) (count_none first _ (records_of (between s first (apostrophe_from s first))))
+  count_start = ap (cond (leb (length s) (apostrophe_from s first)) None) (count_none first _ (records_of (between s first (apostrophe_from s first))))
 
-  pub count_end : length s ≤ p → lines_from s first n p ≡ Broken
+  pub count_end : length s ≤ p → lines_from s first n p ≡ None
   unfolding lines_from
   count_end h = let l : length s ≤ apostrophe_from s p = omega arith in rw (le-leb _ _ l) refl
 
   module _ (h : p < length s) where
-    pub count_apostrophe : get_or s p 0 ≡ 39 → lines_from s first n p ≡ Counted (record { first = first; end = p; records = n })
+    pub count_apostrophe : get_or s p 0 ≡ 39 → lines_from s first n p ≡ Some (record { first = first; end = p; records = n })
     unfolding run_of records_of lines_from
     count_apostrophe e =
         let none : run_of BodyByte (drop p s) ≡ 0 = rw (drop-cons s p 0, e) refl in
         let at : apostrophe_from s p ≡ p = omega (arith, none) in
         let empty : between s p p ≡ [] = (let z : p - p ≡ 0 = omega arith in rw z refl) in
-        rw (at, lt-leb _ _ h, empty) (ap (λ (k : ℕ). Counted (record { first = first; end = p; records = k })) (omega arith))
+        rw (at, lt-leb _ _ h, empty) (ap (λ (k : ℕ). Some (record { first = first; end = p; records = k })) (omega arith))
 
     module _ (other : get_or s p 0 ≡ 39 → ⊥) where
       begun : 0 < run_of BodyByte (drop p s)
       unfolding run_of
       begun = rw (drop-cons s p 0, ne_eqb _ 39 other) (omega arith)
 
-      pub count_more : (q : ℕ) → line_end s p ≡ EndsAt q → lines_from s first n p ≡ lines_from s first (n + 1) q
+      pub count_more : (q : ℕ) → line_end s p ≡ Some q → lines_from s first n p ≡ lines_from s first (n + 1) q
       unfolding line_end text_end lines_from
       count_more q e =
           let l = drop p s in
@@ -285,10 +284,10 @@ module _ (s : List ℕ) (first n p : ℕ) where
           let lines : records_of (between s p (apostrophe_from s p)) ≡ with_record (record_at s p) (records_of (between s q (apostrophe_from s q))) =
           ap records_of (body_bytes s p) ∙ first_line l begun
           ∙ rw (ended, r.1, there) (ap (λ (x : List ℕ). with_record (record_at s p) (records_of x)) (sym (body_bytes s q))) in
-          (λ i. cond (leb (length s) (place i)) Broken (count_from n first (place i) (lines i)))
-          ∙ ap (cond (leb (length s) (apostrophe_from s q)) Broken) (count_record n first _ (record_at s p) (records_of (between s q (apostrophe_from s q))))
+          (λ i. cond (leb (length s) (place i)) None (count_from n first (place i) (lines i)))
+          ∙ ap (cond (leb (length s) (apostrophe_from s q)) None) (count_record n first _ (record_at s p) (records_of (between s q (apostrophe_from s q))))
 
-      pub count_off : line_end s p ≡ Missing → lines_from s first n p ≡ Broken
+      pub count_off : line_end s p ≡ None → lines_from s first n p ≡ None
       unfolding line_end text_end lines_from
       count_off e =
           let l = drop p s in

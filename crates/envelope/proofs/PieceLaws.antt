@@ -3,7 +3,7 @@
 use Prim.Native.Nat.{ℕ, suc, ◌+◌, ◌-◌, ◌<◌, ◌≤◌, zero-le, suc-le-suc}
 use mathlib.Core.Bool.{Bool, true, false, ◌&&◌, cond, false≢true}
 use mathlib.Core.List.{List, [], ◌∷◌}
-use mathlib.Core.Path.{◌≡◌, refl, ap, ◌∙◌}
+use mathlib.Core.Path.{◌≡◌, refl, ap, sym, ◌∙◌}
 use native.Mathlib.Numerals.{add-one}
 use native.Mathlib.Omega.{arith}
 use borrow.Author.Tests.{le-leb, leb-true}
@@ -14,9 +14,9 @@ use Rattle.frame.proofs.BoolLaws.{and_left, and_right}
 use Rattle.text.specs.declared.Class.{Class}
 use Rattle.text.specs.Class.{belongs_to}
 use Rattle.text.specs.Bytes.{all}
-use Rattle.envelope.specs.declared.Piece.{Piece}
-use Rattle.envelope.specs.declared.Piece.TheVariants.{EndsAt, Missing}
-use Rattle.envelope.specs.Pieces.{run_of, begins, text_end, part_end, part_then, on_piece}
+use Rattle.std.specs.Prelude.{Option, Some, None}
+use Rattle.std.proofs.lemmas.Option.{none-some, cond_some}
+use Rattle.envelope.specs.Pieces.{run_of, begins, text_end, part_end, part_then, on}
 
 -- a byte of the class lengthens the run by one
 pub run_on : (k : Class) (s : List ℕ) (p : ℕ) → p < length s → belongs_to k (get_or s p 0) ≡ true → p + run_of k (drop p s) ≡ p + 1 + run_of k (drop (p + 1) s)
@@ -72,17 +72,13 @@ pub text_whole : (t s : List ℕ) (i : ℕ) → length t ≤ i → begins (drop 
 unfolding begins
 text_whole t s i h = rw drop_of_length-le
 
--- a chain of pieces that comes to v found its first piece
-pub missing_ends : (q : ℕ) → Missing ≡ EndsAt q → ⊥
-missing_ends q e = let z : ◌≡◌ {A = ℕ} 0 1 = cc in omega arith
+-- a chain that comes to v found what it began with
+pub found : {A P : Type 0} (x : Option P) (none v : A) (f : P → A) → (none ≡ v → ⊥) → on x none f ≡ v → (p : P) × ((x ≡ Some p) × (f p ≡ v))
+found (Some p) none v f n e = (p, (refl, e))
+found None none v f n e = absurd (n e)
 
-pub found_piece : {A : Type 0} (x : Piece) (none v : A) (f : ℕ → A) → (none ≡ v → ⊥) → on_piece x none f ≡ v → (p : ℕ) × ((x ≡ EndsAt p) × (f p ≡ v))
-found_piece (EndsAt p) none v f n e = (p, (refl, e))
-found_piece Missing none v f n e = absurd (n e)
-
-pub picked : (x : Bool) (p q : ℕ) → cond x (EndsAt p) Missing ≡ EndsAt q → (x ≡ true) × (q ≡ p)
-picked true p q e = (refl, cc)
-picked false p q e = absurd (missing_ends q e)
+pub picked : (x : Bool) (p q : ℕ) → cond x (Some p) None ≡ Some q → (x ≡ true) × (q ≡ p)
+picked x p q e = let w = cond_some x p q e in (w.0, sym w.1)
 
 begins_long : (t l : List ℕ) → begins t l ≡ true → length t ≤ length l
 unfolding begins
@@ -92,7 +88,7 @@ begins_long (a ∷ t) (b ∷ l) e = suc-le-suc (begins_long t l (and_right (eqb 
 
 -- where a piece that was found ends
 module _ (s : List ℕ) (p q : ℕ) (h : p ≤ length s) where
-  pub text_found : (t : List ℕ) → text_end s p t ≡ EndsAt q → (q ≡ p + length t) × (q ≤ length s)
+  pub text_found : (t : List ℕ) → text_end s p t ≡ Some q → (q ≡ p + length t) × (q ≤ length s)
   unfolding text_end
   text_found t e =
       let w = picked (begins t (drop p s)) (p + length t) q e in
@@ -100,7 +96,7 @@ module _ (s : List ℕ) (p q : ℕ) (h : p ≤ length s) where
       (w.1, omega arith)
 
   -- a part: the run of its class, of lo to hi bytes
-  pub part_found : (k : Class) (lo hi : ℕ) → part_end s p k lo hi ≡ EndsAt q
+  pub part_found : (k : Class) (lo hi : ℕ) → part_end s p k lo hi ≡ Some q
       → (q ≡ p + run_of k (drop p s)) × (lo ≤ run_of k (drop p s)) × (run_of k (drop p s) ≤ hi) × (q ≤ length s)
   unfolding part_end
   part_found k lo hi e =
@@ -110,11 +106,11 @@ module _ (s : List ℕ) (p q : ℕ) (h : p ≤ length s) where
       (w.1, leb-true lo n (and_left (leb lo n) _ w.0), leb-true n hi (and_right (leb lo n) _ w.0), omega (arith, w.1))
 
 -- a part and the text behind it: the part's length, then the text's
-pub then_found : (s : List ℕ) (p q : ℕ) (h : p ≤ length s) (k : Class) (lo hi : ℕ) (t : List ℕ) → part_then s p k lo hi t ≡ EndsAt q
+pub then_found : (s : List ℕ) (p q : ℕ) (h : p ≤ length s) (k : Class) (lo hi : ℕ) (t : List ℕ) → part_then s p k lo hi t ≡ Some q
     → (q ≡ p + run_of k (drop p s) + length t) × (lo ≤ run_of k (drop p s)) × (run_of k (drop p s) ≤ hi) × (q ≤ length s)
 unfolding part_then
 then_found s p q h k lo hi t e =
-    let w = found_piece (part_end s p k lo hi) Missing (EndsAt q) (λ z. text_end s z t) (missing_ends q) e in
+    let w = found (part_end s p k lo hi) None (Some q) (λ z. text_end s z t) (none-some q) e in
     let a = part_found s p w.0 h k lo hi w.1.0 in
     let b = text_found s w.0 q a.3 t w.1.1 in
     (b.0 ∙ ap (λ (x : ℕ). x + length t) a.0, a.1, a.2, b.1)

@@ -19,11 +19,10 @@ use Rattle.text.specs.Text.{bytes}
 use Rattle.text.proofs.ByteLaws.{same_refl}
 use Rattle.identifier.specs.Identifier.{name_up_to}
 use Rattle.calendar.specs.Calendar.{digits_exactly, real_date, real_minute}
-use Rattle.envelope.specs.declared.Piece.TheVariants.{EndsAt}
 use Rattle.envelope.specs.declared.Parts.{Parts}
 use Rattle.envelope.specs.declared.Span.{Span}
-use Rattle.envelope.specs.declared.Body.TheVariants.{Counted}
 use Rattle.envelope.specs.declared.Layout.{Layout}
+use Rattle.std.specs.Prelude.{Some}
 use Rattle.envelope.specs.Pieces.{between, run_of, begins, text_end, part_end, part_then}
 use Rattle.envelope.specs.Body.{records, crlf, records_of, lines_at, body_at}
 use Rattle.envelope.specs.Envelope.{record_count_limit, head_of, tail_of, layout_of, body_stage, envelope_of, sender_of, control_word_of, listed, records_from}
@@ -46,13 +45,13 @@ module _ (s : List ℕ) (at : ℕ) where
   rest_at : (w q : List ℕ) → drop at s ≡ w ++ q → drop (at + length w) s ≡ q
   rest_at w q e = sym (drop-drop (length w) at s) ∙ ap (drop (length w)) e ∙ drop-append_seam w q
 
-  pub text_written : (t q : List ℕ) → drop at s ≡ t ++ q → (text_end s at t ≡ EndsAt (at + length t)) × (drop (at + length t) s ≡ q)
+  pub text_written : (t q : List ℕ) → drop at s ≡ t ++ q → (text_end s at t ≡ Some (at + length t)) × (drop (at + length t) s ≡ q)
   unfolding text_end
   text_written t q e = (rw (e, begins_self t q) refl, rest_at t q e)
 
   module _ (k : Class) (lo hi : ℕ) (w q : List ℕ) (a : all (belongs_to k) w ≡ true) (l : lo ≤ length w) (h : length w ≤ hi) where
     pub part_written : run_of k q ≡ 0 → drop at s ≡ w ++ q
-        → (part_end s at k lo hi ≡ EndsAt (at + length w)) × (between s at (at + length w) ≡ w) × (drop (at + length w) s ≡ q)
+        → (part_end s at k lo hi ≡ Some (at + length w)) × (between s at (at + length w) ≡ w) × (drop (at + length w) s ≡ q)
     unfolding part_end
     part_written z e =
         let m : at + length w - at ≡ length w = omega arith in (
@@ -64,7 +63,7 @@ module _ (s : List ℕ) (at : ℕ) where
   -- a part with a byte behind it that is not of its class
   pub then_written : (k : Class) (lo hi : ℕ) (w : List ℕ) (b : ℕ) (q : List ℕ) → all (belongs_to k) w ≡ true → lo ≤ length w → length w ≤ hi
       → belongs_to k b ≡ false → drop at s ≡ w ++ (b ∷ q)
-      → (part_then s at k lo hi (b ∷ []) ≡ EndsAt (at + length w + 1)) × (between s at (at + length w + 1 - 1) ≡ w) × (drop (at + length w + 1) s ≡ q)
+      → (part_then s at k lo hi (b ∷ []) ≡ Some (at + length w + 1)) × (between s at (at + length w + 1 - 1) ≡ w) × (drop (at + length w + 1) s ≡ q)
   unfolding part_then text_end begins run_of
   then_written k lo hi w b q a l h z e =
       let p = part_written k lo hi w (b ∷ q) a l h (rw z refl) e in
@@ -139,7 +138,7 @@ module _ (s : List ℕ) (at : ℕ) (rs : List (List ℕ)) (t : List ℕ) (a : al
       let m : end_at - first_at ≡ length (lines_then rs []) = omega arith in
       rw (m, lines_there, take-append_seam (lines_then rs []) (39 ∷ t)) (records_back rs a)
 
-  pub body_there : body_at s at ≡ Counted (record { first = first_at; end = end_at; records = length rs })
+  pub body_there : body_at s at ≡ Some (record { first = first_at; end = end_at; records = length rs })
   unfolding body_at lines_at
   body_there =
       let run : run_of BodyByte (drop first_at s) ≡ length (lines_then rs []) =
@@ -149,7 +148,7 @@ module _ (s : List ℕ) (at : ℕ) (rs : List (List ℕ)) (t : List ℕ) (a : al
 
 -- the tail, at the end of the file
 pub tail_back : (s : List ℕ) (at : ℕ) (w : List ℕ) → all is_word_byte w ≡ true → 1 ≤ length w → length w ≤ 14
-    → drop at s ≡ bytes "'UNT+3+BWA'UNZ+1+" ++ (w ++ bytes "'") → (tail_of s at ≡ EndsAt (at + 17)) × (between s (at + 17) (length s - 1) ≡ w)
+    → drop at s ≡ bytes "'UNT+3+BWA'UNZ+1+" ++ (w ++ bytes "'") → (tail_of s at ≡ Some (at + 17)) × (between s (at + 17) (length s - 1) ≡ w)
 unfolding tail_of
 tail_back s at w a l h e =
     let p1 = text_written s at (bytes "'UNT+3+BWA'UNZ+1+") (w ++ bytes "'") e in

@@ -1,23 +1,17 @@
 -- "Envelope" of document 01: the head, the body and the tail of a report file, and refusals 5 to 11, one stage each, in the order of the table.
 -- Assumes nothing.
-use Rattle.std.specs.Prelude.{ℕ, ◌-◌, ◌<◌, ◌≤◌, ◌&&◌, cond, List, [], eqb, ltb, length}
+use Rattle.std.specs.Prelude.{ℕ, ◌-◌, ◌<◌, ◌≤◌, ◌&&◌, cond, List, [], eqb, ltb, length, Option, Some, None, Result}
 use Rattle.frame.specs.Reply.{Reply, refused, accepted}
+use Rattle.refusal.specs.declared.Refusal.{Refusal}
+use Rattle.refusal.specs.Refusal.{reply_of}
 use Rattle.text.specs.declared.Class.TheVariants.{Digit, CapitalOrDigit, WordByte}
 use Rattle.text.specs.Bytes.{same}
 use Rattle.text.specs.Text.{bytes}
 use Rattle.calendar.specs.Calendar.{real_date, real_minute}
-use Rattle.envelope.specs.declared.Piece.{Piece}
-use Rattle.envelope.specs.declared.Piece.TheVariants.{EndsAt, Missing}
 use Rattle.envelope.specs.declared.Parts.{Parts}
-use Rattle.envelope.specs.declared.Head.{Head}
-use Rattle.envelope.specs.declared.Head.TheVariants.{Read, Unread}
 use Rattle.envelope.specs.declared.Span.{Span}
-use Rattle.envelope.specs.declared.Body.{Body}
-use Rattle.envelope.specs.declared.Body.TheVariants.{Counted, Broken}
 use Rattle.envelope.specs.declared.Layout.{Layout}
-use Rattle.envelope.specs.declared.Opened.{Opened}
-use Rattle.envelope.specs.declared.Opened.TheVariants.{Report, Refused}
-use Rattle.envelope.specs.Pieces.{between, text_end, part_end, part_then, on_piece}
+use Rattle.envelope.specs.Pieces.{between, text_end, part_end, part_then, on}
 use Rattle.envelope.specs.Body.{Records, broken, records, body_at, records_of}
 
 -- the largest file, and the most records of one
@@ -32,23 +26,23 @@ abbrev pub report_class : List ℕ
 report_class = bytes "++BWAMS'UNH+BWA+BWA:0'"
 
 -- UNB+UNOA:1+Sender+Receiver+YYYYMMDD:HHMM+Word, then the text of the class
-unfoldable pub head_of : List ℕ → List ℕ → Head
+unfoldable pub head_of : List ℕ → List ℕ → Option Parts
 head_of s class =
-    on_piece (text_end s 0 (bytes "UNB+UNOA:1+")) Unread (λ sender.
-    on_piece (part_then s sender CapitalOrDigit 1 8 (bytes "+")) Unread (λ receiver.
-    on_piece (part_then s receiver CapitalOrDigit 1 8 (bytes "+")) Unread (λ date.
-    on_piece (part_then s date Digit 8 8 (bytes ":")) Unread (λ time.
-    on_piece (part_then s time Digit 4 4 (bytes "+")) Unread (λ word.
-    on_piece (part_end s word WordByte 1 14) Unread (λ word_end.
-    on_piece (text_end s word_end class) Unread (λ end.
-    Read (record { sender = sender; receiver = receiver; date = date; time = time; word = word; word_end = word_end; end = end }))))))))
+    on (text_end s 0 (bytes "UNB+UNOA:1+")) None (λ sender.
+    on (part_then s sender CapitalOrDigit 1 8 (bytes "+")) None (λ receiver.
+    on (part_then s receiver CapitalOrDigit 1 8 (bytes "+")) None (λ date.
+    on (part_then s date Digit 8 8 (bytes ":")) None (λ time.
+    on (part_then s time Digit 4 4 (bytes "+")) None (λ word.
+    on (part_end s word WordByte 1 14) None (λ word_end.
+    on (text_end s word_end class) None (λ end.
+    Some (record { sender = sender; receiver = receiver; date = date; time = time; word = word; word_end = word_end; end = end }))))))))
 
 -- 'UNT+3+BWA'UNZ+1+Word', then the end of the file: where the word begins
-unfoldable pub tail_of : List ℕ → ℕ → Piece
+unfoldable pub tail_of : List ℕ → ℕ → Option ℕ
 tail_of s at =
-    on_piece (text_end s at (bytes "'UNT+3+BWA'UNZ+1+")) Missing (λ word.
-    on_piece (part_then s word WordByte 1 14 (bytes "'")) Missing (λ end.
-    cond (eqb end (length s)) (EndsAt word) Missing))
+    on (text_end s at (bytes "'UNT+3+BWA'UNZ+1+")) None (λ word.
+    on (part_then s word WordByte 1 14 (bytes "'")) None (λ end.
+    cond (eqb end (length s)) (Some word) None))
 
 -- the parts of a head lie one after another within the file
 pub record Ordered (s : List ℕ) (h : Parts) : Type 0 where
@@ -59,14 +53,6 @@ pub record Ordered (s : List ℕ) (h : Parts) : Type 0 where
   pub word : h.word ≤ h.word_end
   pub word_end : h.word_end ≤ h.end
   pub end : h.end ≤ length s
-
-abbrev pub on_head : {A : Type 0} → Head → A → (Parts → A) → A
-on_head (Read h) none f = f h
-on_head Unread none f = none
-
-abbrev pub on_body : {A : Type 0} → Body → A → (Span → A) → A
-on_body (Counted b) none f = f b
-on_body Broken none f = none
 
 -- where the sender, the control word and the records of a report lie, and how many records it has
 abbrev pub layout_of : Parts → Span → Layout
@@ -92,11 +78,11 @@ word_stage s h b word =
 
 -- 9 tail not of the layout, word form included
 abbrev pub tail_stage : List ℕ → Parts → Span → Reply Layout
-tail_stage s h b = on_piece (tail_of s b.end) (refused 9) (word_stage s h b)
+tail_stage s h b = on (tail_of s b.end) (refused 9) (word_stage s h b)
 
 -- 8 body not of the layout
 unfoldable pub body_stage : List ℕ → Parts → Reply Layout
-body_stage s h = on_body (body_at s h.end) (refused 8) (tail_stage s h)
+body_stage s h = on (body_at s h.end) (refused 8) (tail_stage s h)
 
 -- 7 receiver is not ATBWA
 abbrev pub receiver_stage : List ℕ → Parts → Reply Layout
@@ -109,16 +95,15 @@ date_stage s h =
 
 -- 5 head not of the layout, date and time digits included
 unfoldable pub envelope_of : List ℕ → List ℕ → Reply Layout
-envelope_of class s = on_head (head_of s class) (refused 5) (date_stage s)
+envelope_of class s = on (head_of s class) (refused 5) (date_stage s)
 
 -- a report file
 abbrev pub report_of : List ℕ → Reply Layout
 report_of s = envelope_of report_class s
 
--- what each case of an opened file stands for: the number of its refusal, 5 to 11; or a report, whose sender, control word and records are those below
-abbrev pub opened_as : Opened → Reply Layout
-opened_as (Refused n) = refused n
-opened_as (Report l) = accepted l
+-- what an opened file stands for: the number of its refusal, 5 to 11; or a report, whose sender, control word and records are those below
+abbrev pub opened_as : Result Layout Refusal → Reply Layout
+opened_as = reply_of (λ l. l)
 
 -- the sender, the control word and the records of a report
 abbrev pub sender_of : List ℕ → Layout → List ℕ

@@ -1,10 +1,8 @@
 -- The two kinds of piece that an envelope is made of, read at a place of a file: a fixed text, and a part of a class of bytes.
 -- Assumes nothing.
-use Rattle.std.specs.Prelude.{ℕ, suc, ◌+◌, ◌-◌, Bool, true, false, ◌&&◌, cond, List, [], ◌∷◌, leb, eqb, length, take, drop}
+use Rattle.std.specs.Prelude.{ℕ, suc, ◌+◌, ◌-◌, Bool, true, false, ◌&&◌, cond, List, [], ◌∷◌, leb, eqb, length, take, drop, Option, Some, None}
 use Rattle.text.specs.declared.Class.{Class}
 use Rattle.text.specs.Class.{belongs_to}
-use Rattle.envelope.specs.declared.Piece.{Piece}
-use Rattle.envelope.specs.declared.Piece.TheVariants.{EndsAt, Missing}
 
 -- the bytes from a place up to another
 abbrev pub between : List ℕ → ℕ → ℕ → List ℕ
@@ -21,20 +19,20 @@ begins [] s = true
 begins (a ∷ t) [] = false
 begins (a ∷ t) (b ∷ s) = eqb b a && begins t s
 
--- a fixed text at a place of s
-unfoldable pub text_end : List ℕ → ℕ → List ℕ → Piece
-text_end s at t = cond (begins t (drop at s)) (EndsAt (at + length t)) Missing
+-- a fixed text at a place of s: where it ends
+unfoldable pub text_end : List ℕ → ℕ → List ℕ → Option ℕ
+text_end s at t = cond (begins t (drop at s)) (Some (at + length t)) None
 
 -- a part of lo to hi bytes of a class at a place of s: all bytes of the class that stand there
-unfoldable pub part_end : List ℕ → ℕ → Class → ℕ → ℕ → Piece
+unfoldable pub part_end : List ℕ → ℕ → Class → ℕ → ℕ → Option ℕ
 part_end s at k lo hi =
-    let n = run_of k (drop at s) in cond (leb lo n && leb n hi) (EndsAt (at + n)) Missing
+    let n = run_of k (drop at s) in cond (leb lo n && leb n hi) (Some (at + n)) None
 
--- what follows from a piece's end; the other where it is missing
-abbrev pub on_piece : {A : Type 0} → Piece → A → (ℕ → A) → A
-on_piece (EndsAt p) none f = f p
-on_piece Missing none f = none
+-- what follows from what was found; the other where there is none
+abbrev pub on : {A B : Type 0} → Option A → B → (A → B) → B
+on (Some a) none f = f a
+on None none f = none
 
 -- such a part, and the fixed text that ends it
-unfoldable pub part_then : List ℕ → ℕ → Class → ℕ → ℕ → List ℕ → Piece
-part_then s at k lo hi t = on_piece (part_end s at k lo hi) Missing (λ e. text_end s e t)
+unfoldable pub part_then : List ℕ → ℕ → Class → ℕ → ℕ → List ℕ → Option ℕ
+part_then s at k lo hi t = on (part_end s at k lo hi) None (λ e. text_end s e t)

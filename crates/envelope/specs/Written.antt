@@ -1,17 +1,14 @@
 -- An envelope as it is written: the layout line of document 01, "Envelope", from left to right.
 -- Assumes nothing.
-use Rattle.std.specs.Prelude.{ℕ, ◌-◌, Bool, true, ◌&&◌, List, [], ◌∷◌, ◌++◌, ◌≡◌, leb, length}
+use Rattle.std.specs.Prelude.{ℕ, ◌-◌, Bool, true, ◌&&◌, List, [], ◌∷◌, ◌++◌, ◌≡◌, leb, length, Some}
 use Rattle.text.specs.declared.Class.TheVariants.{WordByte}
 use Rattle.text.specs.Class.{is_word_byte, is_record_byte}
 use Rattle.text.specs.Bytes.{all}
 use Rattle.text.specs.Text.{bytes}
 use Rattle.identifier.specs.Identifier.{name_up_to}
 use Rattle.calendar.specs.Calendar.{digits_exactly}
-use Rattle.envelope.specs.declared.Piece.TheVariants.{EndsAt}
 use Rattle.envelope.specs.declared.Parts.{Parts}
-use Rattle.envelope.specs.declared.Head.TheVariants.{Read}
 use Rattle.envelope.specs.declared.Span.{Span}
-use Rattle.envelope.specs.declared.Body.TheVariants.{Counted}
 use Rattle.envelope.specs.Pieces.{between, run_of}
 use Rattle.envelope.specs.Body.{records, crlf, records_of, body_at}
 use Rattle.envelope.specs.Envelope.{head_of, tail_of}
@@ -56,14 +53,14 @@ pub record Formed (e : Envelope) : Type 0 where
 
 -- what it is read back as: the parts of its head, its body and its tail, and in them what it was written from
 pub record ReadsBack (e : Envelope) (h : Parts) (b : Span) (last : ℕ) : Type 0 where
-  pub head : head_of (written e) e.class ≡ Read h
+  pub head : head_of (written e) e.class ≡ Some h
   pub sender : between (written e) h.sender (h.receiver - 1) ≡ e.sender
   pub receiver : between (written e) h.receiver (h.date - 1) ≡ e.receiver
   pub date : between (written e) h.date (h.time - 1) ≡ e.date
   pub time : between (written e) h.time (h.word - 1) ≡ e.time
   pub word : between (written e) h.word h.word_end ≡ e.word
-  pub body : body_at (written e) h.end ≡ Counted b
+  pub body : body_at (written e) h.end ≡ Some b
   pub records : records_of (between (written e) b.first b.end) ≡ records e.records
   pub count : b.records ≡ length e.records
-  pub tail : tail_of (written e) b.end ≡ EndsAt last
+  pub tail : tail_of (written e) b.end ≡ Some last
   pub last_word : between (written e) last (length (written e) - 1) ≡ e.word

@@ -2,12 +2,13 @@
 #![tactic(auto)]
 
 ghost use Rattle.std.specs.Prelude.{◌≡◌, ◌+◌, drop};
-ghost use Rattle.frame.specs.Reply.{refusal_in};
+ghost use Rattle.std.specs.Option.{ForSome};
 ghost use Rattle.text.specs.declared.Class.TheVariants.{RecordByte};
 ghost use Rattle.envelope.specs.Pieces.{run_of, text_end, part_end, part_then};
 ghost use Rattle.envelope.specs.Body.{line_end, lines_at, body_at};
 ghost use Rattle.envelope.specs.Envelope.{Ordered, head_of, tail_of, body_stage, envelope_of, report_of, opened_as};
 
+use refusal::Refusal;
 use text::Class;
 
 // The largest file, and the most records of one.
@@ -21,25 +22,12 @@ pub const CRLF_SIZE: usize = 2;
 // The bytes of a record that are tested at once.
 const BLOCK_SIZE: usize = 16;
 
-// Where a piece ends, or that it is not there.
-#[derive(Clone, Copy)]
-pub enum Piece {
-    EndsAt(usize),
-    Missing,
-}
-
 // Where the records of a body begin and end, and how many they are.
 #[derive(Clone, Copy)]
 pub struct Span {
     pub first: usize,
     pub end: usize,
     pub records: usize,
-}
-
-#[derive(Clone, Copy)]
-pub enum Body {
-    Counted(Span),
-    Broken,
 }
 
 // Where the parts of a head begin, and where its word and the whole head end.
@@ -54,12 +42,6 @@ pub struct Parts {
     pub end: usize,
 }
 
-#[derive(Clone, Copy)]
-pub enum Head {
-    Read(Parts),
-    Unread,
-}
-
 // A report: where its sender, its control word and its records lie in the file, and how many records it has.
 #[derive(Clone, Copy)]
 pub struct Layout {
@@ -70,13 +52,6 @@ pub struct Layout {
     pub first: usize,
     pub end: usize,
     pub records: usize,
-}
-
-// What opening a file gives: a report, or the number of the refusal.
-#[derive(Clone, Copy)]
-pub enum Opened {
-    Report(Layout),
-    Refused(u8),
 }
 
 // The end of the run of bytes of a class that begins at a place.
@@ -93,48 +68,46 @@ fn run_end(s: &[u8], at: usize, k: Class) -> usize
     p
 }
 
-// A fixed text at a place.
-fn text_end(s: &[u8], at: usize, t: &[u8]) -> Piece
+// Where a fixed text at a place ends, if it stands there.
+fn text_end(s: &[u8], at: usize, t: &[u8]) -> Option<usize>
     ensures { result ≡ text_end s.now at t.now }
 {
     let mut p = at;
     let mut i = 0;
     while i < t.len() {
         if s.len() <= p {
-            return Piece::Missing;
+            return None;
         }
         if s[p] != t[i] {
-            return Piece::Missing;
+            return None;
         }
         p += 1;
         i += 1;
     }
-    Piece::EndsAt(p)
+    Some(p)
 }
 
-// A part of lo to hi bytes of a class at a place.
-fn part_end(s: &[u8], at: usize, k: Class, lo: usize, hi: usize) -> Piece
+// Where a part of lo to hi bytes of a class at a place ends.
+fn part_end(s: &[u8], at: usize, k: Class, lo: usize, hi: usize) -> Option<usize>
     ensures { result ≡ part_end s.now at k lo hi }
 {
     let e = run_end(s, at, k);
     let n = e - at;
     if n < lo {
-        return Piece::Missing;
+        return None;
     }
     if hi < n {
-        return Piece::Missing;
+        return None;
     }
-    Piece::EndsAt(e)
+    Some(e)
 }
 
 // A part, and the fixed text that ends it.
-fn part_then(s: &[u8], at: usize, k: Class, lo: usize, hi: usize, t: &[u8]) -> Piece
+#[tactic(auto, unfolding(crate::specs::Pieces::part_then))]
+fn part_then(s: &[u8], at: usize, k: Class, lo: usize, hi: usize, t: &[u8]) -> Option<usize>
     ensures { result ≡ part_then s.now at k lo hi t.now }
 {
-    let Piece::EndsAt(e) = part_end(s, at, k, lo, hi) else {
-        return Piece::Missing;
-    };
-    text_end(s, e, t)
+    text_end(s, part_end(s, at, k, lo, hi)?, t)
 }
 
 // The end of the run of record bytes in w: its length where every byte is above the apostrophe, as in most blocks of a record.
@@ -177,7 +150,7 @@ pub fn record_end(s: &[u8], at: usize) -> usize
 }
 
 // The end of the line at a place: a record, then CR LF.
-pub fn line_end(s: &[u8], at: usize) -> Piece
+pub fn line_end(s: &[u8], at: usize) -> Option<usize>
     ensures { result ≡ line_end s.now at }
 {
     let e = record_end(s, at);
@@ -185,64 +158,47 @@ pub fn line_end(s: &[u8], at: usize) -> Piece
 }
 
 // The records from a place up to the first apostrophe, counted in one pass.
-fn count_lines(s: &[u8], first: usize) -> Body
+fn count_lines(s: &[u8], first: usize) -> Option<Span>
     ensures { result ≡ lines_at s.now first }
 {
     let mut p = first;
     let mut n: usize = 0;
     while p < s.len() {
         if s[p] == b'\'' {
-            return Body::Counted(Span {
+            return Some(Span {
                 first,
                 end: p,
                 records: n,
             });
         }
-        let Piece::EndsAt(q) = line_end(s, p) else {
-            return Body::Broken;
-        };
-        p = q;
+        p = line_end(s, p)?;
         n += 1;
     }
-    Body::Broken
+    None
 }
 
 // The body at a place: CR LF, then records.
-fn read_body(s: &[u8], at: usize) -> Body
+#[tactic(auto, unfolding(crate::specs::Body::body_at))]
+fn read_body(s: &[u8], at: usize) -> Option<Span>
     ensures { result ≡ body_at s.now at }
 {
-    let Piece::EndsAt(first) = text_end(s, at, b"\r\n") else {
-        return Body::Broken;
-    };
-    count_lines(s, first)
+    count_lines(s, text_end(s, at, b"\r\n")?)
 }
 
 // The head of a file: fixed pieces, sender, receiver, date, time and word, then the text of the class.
-fn read_head(s: &[u8], class: &[u8]) -> Head
-    ensures { result ≡ head_of s.now class.now }
+#[tactic(auto, unfolding(crate::specs::Envelope::head_of))]
+fn read_head(s: &[u8], class: &[u8]) -> Option<Parts>
+    ensures read { result ≡ head_of s.now class.now }
+    ensures ordered { ForSome result (λ h. Ordered s.now h) }
 {
-    let Piece::EndsAt(sender) = text_end(s, 0, b"UNB+UNOA:1+") else {
-        return Head::Unread;
-    };
-    let Piece::EndsAt(receiver) = part_then(s, sender, Class::CapitalOrDigit, 1, 8, b"+") else {
-        return Head::Unread;
-    };
-    let Piece::EndsAt(date) = part_then(s, receiver, Class::CapitalOrDigit, 1, 8, b"+") else {
-        return Head::Unread;
-    };
-    let Piece::EndsAt(time) = part_then(s, date, Class::Digit, 8, 8, b":") else {
-        return Head::Unread;
-    };
-    let Piece::EndsAt(word) = part_then(s, time, Class::Digit, 4, 4, b"+") else {
-        return Head::Unread;
-    };
-    let Piece::EndsAt(word_end) = part_end(s, word, Class::WordByte, 1, 14) else {
-        return Head::Unread;
-    };
-    let Piece::EndsAt(end) = text_end(s, word_end, class) else {
-        return Head::Unread;
-    };
-    Head::Read(Parts {
+    let sender = text_end(s, 0, b"UNB+UNOA:1+")?;
+    let receiver = part_then(s, sender, Class::CapitalOrDigit, 1, 8, b"+")?;
+    let date = part_then(s, receiver, Class::CapitalOrDigit, 1, 8, b"+")?;
+    let time = part_then(s, date, Class::Digit, 8, 8, b":")?;
+    let word = part_then(s, time, Class::Digit, 4, 4, b"+")?;
+    let word_end = part_end(s, word, Class::WordByte, 1, 14)?;
+    let end = text_end(s, word_end, class)?;
+    Some(Parts {
         sender,
         receiver,
         date,
@@ -254,42 +210,33 @@ fn read_head(s: &[u8], class: &[u8]) -> Head
 }
 
 // Where the word of the tail begins: the tail stands at a place, and ends the file.
-fn read_tail(s: &[u8], at: usize) -> Piece
+#[tactic(auto, unfolding(crate::specs::Envelope::tail_of))]
+fn read_tail(s: &[u8], at: usize) -> Option<usize>
     ensures { result ≡ tail_of s.now at }
 {
-    let Piece::EndsAt(word) = text_end(s, at, b"'UNT+3+BWA'UNZ+1+") else {
-        return Piece::Missing;
-    };
-    let Piece::EndsAt(end) = part_then(s, word, Class::WordByte, 1, 14, b"'") else {
-        return Piece::Missing;
-    };
+    let word = text_end(s, at, b"'UNT+3+BWA'UNZ+1+")?;
+    let end = part_then(s, word, Class::WordByte, 1, 14, b"'")?;
     if end != s.len() {
-        return Piece::Missing;
+        return None;
     }
-    Piece::EndsAt(word)
+    Some(word)
 }
 
-// Refusals 8 to 11, of a file whose head was read: its body, its tail, its words and its count of records.
-fn open_body(s: &[u8], h: Parts) -> Opened
+// A file whose head was read: its body, its tail, its words and its count of records.
+#[tactic(auto, unfolding(crate::specs::Envelope::body_stage))]
+fn open_body(s: &[u8], h: Parts) -> Result<Layout, Refusal>
     requires { Ordered s.now h }
     ensures { opened_as result ≡ body_stage s.now h }
 {
-    let Body::Counted(b) = read_body(s, h.end) else {
-        return Opened::Refused(8);
-    };
-    let Piece::EndsAt(last) = read_tail(s, b.end) else {
-        return Opened::Refused(9);
-    };
-    let word = h.word;
-    let word_end = h.word_end;
-    let last_end = s.len() - 1;
-    if !text::same(&s[word..word_end], &s[last..last_end]) {
-        return Opened::Refused(10);
+    let b = read_body(s, h.end).ok_or(Refusal::Body)?;
+    let last = read_tail(s, b.end).ok_or(Refusal::Tail)?;
+    if !text::same(&s[h.word..h.word_end], &s[last..s.len() - 1]) {
+        return Err(Refusal::ControlWord);
     }
     if RECORD_COUNT_LIMIT < b.records {
-        return Opened::Refused(11);
+        return Err(Refusal::RecordCount);
     }
-    Opened::Report(Layout {
+    Ok(Layout {
         sender: h.sender,
         sender_end: h.receiver - 1,
         word: h.word,
@@ -300,41 +247,26 @@ fn open_body(s: &[u8], h: Parts) -> Opened
     })
 }
 
-// A report file of a message class, or the number of its refusal, 5 to 11.
-pub fn open(s: &[u8], class: &[u8]) -> Opened
+// A report file of a message class.
+#[tactic(auto, unfolding(crate::specs::Envelope::envelope_of))]
+pub fn open(s: &[u8], class: &[u8]) -> Result<Layout, Refusal>
     ensures { opened_as result ≡ envelope_of class.now s.now }
 {
-    let Head::Read(h) = read_head(s, class) else {
-        return Opened::Refused(5);
-    };
-    let receiver = h.receiver;
-    let date = h.date;
-    let time = h.time;
-    let word = h.word;
-    if !(calendar::is_real_date(&s[date..time - 1])
-        & calendar::is_real_minute(&s[time..word - 1]))
+    let h = read_head(s, class).ok_or(Refusal::Head)?;
+    if !(calendar::is_real_date(&s[h.date..h.time - 1])
+        & calendar::is_real_minute(&s[h.time..h.word - 1]))
     {
-        return Opened::Refused(6);
+        return Err(Refusal::Moment);
     }
-    if !text::same(&s[receiver..date - 1], b"ATBWA") {
-        return Opened::Refused(7);
+    if !text::same(&s[h.receiver..h.date - 1], b"ATBWA") {
+        return Err(Refusal::Receiver);
     }
     open_body(s, h)
 }
 
-// A report file, or the number of its refusal, 5 to 11.
-pub fn open_report(s: &[u8]) -> Opened
+// A report file.
+pub fn open_report(s: &[u8]) -> Result<Layout, Refusal>
     ensures { opened_as result ≡ report_of s.now }
 {
     open(s, b"++BWAMS'UNH+BWA+BWA:0'")
-}
-
-// The number of the refusal that opening a file gave; 0 for a report.
-pub fn refusal_in(opened: Opened) -> u8
-    ensures { result ≡ refusal_in (opened_as opened) }
-{
-    match opened {
-        Opened::Refused(n) => n,
-        Opened::Report(_) => 0,
-    }
 }

@@ -3,7 +3,7 @@ use mathlib.Core.Path.{ap}
 use native.Mathlib.Omega.{arith}
 use borrow.Author.Tests.{lt-leb, le-leb}
 use lib.ListN.{drop}
-use Rattle.envelope.specs.declared.Piece.TheVariants.{EndsAt}
+use Rattle.std.specs.Prelude.{Some}
 use Rattle.envelope.specs.Pieces.{run_of, part_end}
 use Rattle.envelope.proofs.part_end.Goals as goal
 
@@ -28,4 +28,4 @@ returns c =
     let a = c.args in
     let l : a.lo ≤ run_of a.k (drop a.at a.s.now) = omega arith in
     let m : run_of a.k (drop a.at a.s.now) ≤ a.hi = omega arith in
-    rw (le-leb _ _ l, le-leb _ _ m) (ap EndsAt c.run_end-e.ensures)
+    rw (le-leb _ _ l, le-leb _ _ m) (ap Some c.run_end-e.ensures)
