@@ -129,8 +129,8 @@ semicolons_most at (x ∷ xs) = go (eqb x (code ";")) (semicolons_most (suc at) 
     go true h = omega arith
     go false h = omega arith
 
-pub index_short : (s : List ℕ) → length s < 38 → replicate 39 0 ≡ stops_of s
-index_short s h = sym (stops_broken s (sym (not_whole s (λ k. omega (arith, k, semicolons_most 0 s)))))
+pub index_short : (s : List ℕ) → length s < 38 → false ≡ is_whole s
+index_short s h = not_whole s (λ k. omega (arith, k, semicolons_most 0 s))
 
 -- where a field lies by an index, as the tests of its number and of its end come out
 module _ (size : ℕ) (stops : List ℕ) (n : ℕ) where

@@ -39,12 +39,15 @@ fn extend(stops: &mut [usize; 39], found: usize, w: &[u8], at: usize) -> usize
     count
 }
 
-// Makes the index of a record with 38 semicolons, in one pass, and says whether it has so many. It goes block by block: a loop over a count that is
+// Makes the index of a record with 38 semicolons, in one pass, and says whether it has so many, as none of fewer bytes has. It goes block by block: a loop over a count that is
 // known is compiled to straight steps.
 fn fill(stops: &mut [usize; 39], record: &[u8]) -> bool
     requires { length stops.old ≡ 39 }
     ensures { (result ≡ is_whole «record».now) × (result ≡ true → stops.new ≡ stops_of «record».now) }
 {
+    if record.len() < 38 {
+        return false;
+    }
     let mut found: usize = 0;
     let mut p = 0;
     while BLOCK_SIZE <= record.len() - p {
@@ -63,27 +66,6 @@ fn fill(stops: &mut [usize; 39], record: &[u8]) -> bool
     true
 }
 
-// The index of a record: where each of its fields ends; all 0 for a record without 38 semicolons, as each of fewer bytes is.
-pub fn index(record: &[u8]) -> [usize; 39]
-    ensures { result ≡ stops_of «record».now }
-{
-    if record.len() < 38 {
-        return [0usize; 39];
-    }
-    let mut stops = [0usize; 39];
-    if fill(&mut stops, record) {
-        return stops;
-    }
-    [0usize; 39]
-}
-
-// Whether the index is that of a record with 38 semicolons.
-pub fn is_whole(stops: &[usize; 39]) -> bool
-    ensures { result ≡ is_whole_index stops.now }
-{
-    0 < stops[38]
-}
-
 // The empty part at the record's start.
 fn empty_place() -> Place
     ensures { result ≡ empty_place }
@@ -94,44 +76,13 @@ fn empty_place() -> Place
     }
 }
 
-// Where field n lies by an index, in a record of the given size; the empty part where the index doesn't say.
-pub fn place_of(size: usize, stops: &[usize; 39], n: usize) -> Place
-    ensures { result ≡ place_in size stops.now n }
-{
-    if n < 1 {
-        return empty_place();
-    }
-    if 39 < n {
-        return empty_place();
-    }
-    let end = stops[n - 1];
-    if size < end {
-        return empty_place();
-    }
-    if n == 1 {
-        return Place {
-            start: 0,
-            length: end,
-        };
-    }
-    let before = stops[n - 2];
-    if before < end {
-        Place {
-            start: before + 1,
-            length: end - (before + 1),
-        }
-    } else {
-        empty_place()
-    }
-}
-
 // Where field n of a record lies; the empty part at its start for another number, or where it hasn't 38 semicolons.
 pub fn field_place(record: &[u8], n: usize) -> Place
     ensures { result ≡ field_place «record».now n }
 {
-    let mut stops = [0usize; 39];
-    if fill(&mut stops, record) {
-        return place_of(record.len(), &stops, n);
+    let record = Record::of(record);
+    if record.is_whole() {
+        return record.place(n);
     }
     empty_place()
 }
@@ -146,12 +97,72 @@ fn cut(record: &[u8], p: Place) -> &[u8]
     &record[start..end]
 }
 
-// Field n by an index: that part of the record.
-pub fn part<'a>(record: &'a [u8], stops: &[usize; 39], n: usize) -> &'a [u8]
-    ensures { Lies «record».entry (place_in (length «record».now) stops.now n).start
-        (field_by «record».now stops.now n) result }
-{
-    cut(record, place_of(record.len(), stops, n))
+// A record with its index: where each of its fields ends.
+#[derive(Drop)]
+pub struct Record<'a> {
+    pub bytes: &'a [u8],
+    pub stops: [usize; 39],
+}
+
+impl<'a> Record<'a> {
+    // The record of these bytes, looked over once; all of its index is 0 without 38 semicolons, as with fewer bytes.
+    pub fn of(bytes: &'a [u8]) -> Record<'a>
+        ensures lent { result.bytes ≡ bytes.entry }
+        ensures index { result.stops ≡ stops_of bytes.now }
+    {
+        let mut stops = [0; 39];
+        if !fill(&mut stops, bytes) {
+            stops = [0; 39];
+        }
+        Record { bytes, stops }
+    }
+
+    // Whether it has 38 semicolons, by its index.
+    pub fn is_whole(&self) -> bool
+        ensures { result ≡ is_whole_index self.now.stops }
+    {
+        0 < self.stops[38]
+    }
+
+    // Where field n lies by the index; the empty part where the index doesn't say.
+    pub fn place(&self, n: usize) -> Place
+        ensures { result ≡ place_in (length self.now.bytes.now) self.now.stops n }
+    {
+        if n < 1 {
+            return empty_place();
+        }
+        if 39 < n {
+            return empty_place();
+        }
+        let size = self.bytes.len();
+        let end = self.stops[n - 1];
+        if size < end {
+            return empty_place();
+        }
+        if n == 1 {
+            return Place {
+                start: 0,
+                length: end,
+            };
+        }
+        let before = self.stops[n - 2];
+        if before < end {
+            Place {
+                start: before + 1,
+                length: end - (before + 1),
+            }
+        } else {
+            empty_place()
+        }
+    }
+
+    // Field n by the index: that part of the record.
+    pub fn field(&self, n: usize) -> &'a [u8]
+        ensures { Lies self.now.bytes (place_in (length self.now.bytes.now) self.now.stops n).start
+            (field_by self.now.bytes.now self.now.stops n) result }
+    {
+        cut(self.bytes, self.place(n))
+    }
 }
 
 // The field view: field n of the record, the part between its semicolons; the empty part at the record's start for another number, or where it

@@ -3,8 +3,11 @@ use mathlib.Core.Bool.{false≢true}
 use mathlib.Core.Path.{refl}
 use native.Mathlib.Omega.{arith}
 use lib.ListN.{length-take, length-drop}
-use Rattle.fields.proofs.FieldLaws.{index_go, index_over, index_other, index_full}
+use Rattle.fields.proofs.FieldLaws.{index_short, index_go, index_over, index_other, index_full}
 use Rattle.fields.proofs.fill.Goals as goal
+
+pub returns-then-record-lt38 : goal.returns-then-record-lt38
+returns-then-record-lt38 c = (index_short c.args.«record».now (omega arith), λ t. absurd (false≢true t))
 
 pub loop-p-init : goal.loop-p-init
 loop-p-init c = (search rules, search rules, search rules, refl)
