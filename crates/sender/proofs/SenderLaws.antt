@@ -6,6 +6,7 @@ use native.Mathlib.Omega.{arith}
 use mathlib.Core.Bool.{Bool, true, false, ◌&&◌, ◌||◌, not, cond, false≢true}
 use mathlib.Core.List.{List}
 use mathlib.Core.Path.{◌≡◌, refl, sym}
+use Rattle.std.specs.Prelude.{Ok, Err}
 use borrow.Author.Tests.{ltb-true}
 use lib.Dec.{lit≤}
 use lib.ListN.{length, get_or}
@@ -14,15 +15,14 @@ use Rattle.failures.specs.Failures.{added_from, no_failure, is_empty, before_boo
 use Rattle.failures.proofs.FailureLaws.{none_failed, first_below, before_same}
 use Rattle.fields.specs.Forms.{blank, is}
 use Rattle.tables.specs.Reporters.{reporter_count, has_mailbox}
-use Rattle.sender.specs.declared.Checked.TheVariants.{Passed, Failed}
 use Rattle.sender.specs.Sender.{reporter_row, is_found, reporter_tests, sender_tests, sender_check}
 
 -- an answer that passes is that of an empty set, and one that fails that of another
-passed_empty : (b : Bool) (s : Failures) (row r : ℕ) → cond b (Passed row) (Failed s) ≡ Passed r → (b ≡ true) × (r ≡ row)
+passed_empty : (b : Bool) (s : Failures) (row r : ℕ) → cond b (Ok row) (Err s) ≡ Ok r → (b ≡ true) × (r ≡ row)
 passed_empty true s row r e = (refl, cc)
 passed_empty false s row r e = let z : ◌≡◌ {A = ℕ} 0 1 = cc in absurd (omega arith)
 
-failed_not_empty : (b : Bool) (s t : Failures) (row : ℕ) → cond b (Passed row) (Failed s) ≡ Failed t → (b ≡ false) × (t ≡ s)
+failed_not_empty : (b : Bool) (s t : Failures) (row : ℕ) → cond b (Ok row) (Err s) ≡ Err t → (b ≡ false) × (t ≡ s)
 failed_not_empty true s t row e = let z : ◌≡◌ {A = ℕ} 0 1 = cc in absurd (omega arith)
 failed_not_empty false s t row e = (refl, cc)
 
@@ -55,7 +55,7 @@ none_fails reporters sender true f1 f2 h =
     (refl, found, sent)
 
 module _ (reporters sender : List ℕ) (whole : Bool) (f1 f2 : List ℕ) where
-  pub passed_row : {r : ℕ} → sender_check reporters sender whole f1 f2 ≡ Passed r
+  pub passed_row : {r : ℕ} → sender_check reporters sender whole f1 f2 ≡ Ok r
       → (r ≡ reporter_row reporters f1 f2) × (r < reporter_count reporters) × (whole ≡ true) × (has_mailbox reporters sender r ≡ true)
   unfolding sender_check
   passed_row {r} e =
@@ -66,7 +66,7 @@ module _ (reporters sender : List ℕ) (whole : Bool) (f1 f2 : List ℕ) where
       let (all, found, sent) = none_fails reporters sender whole f1 f2 (none_failed tests 0 empty (omega arith)) in
       (here, rw here (ltb-true _ _ found), all, rw here sent)
 
-  failed_set : {s : Failures} → sender_check reporters sender whole f1 f2 ≡ Failed s
+  failed_set : {s : Failures} → sender_check reporters sender whole f1 f2 ≡ Err s
       → (s ≡ added_from no_failure 0 (sender_tests reporters sender whole f1 f2)) × (is_empty s ≡ false)
   unfolding sender_check
   failed_set {s} e =
@@ -74,17 +74,17 @@ module _ (reporters sender : List ℕ) (whole : Bool) (f1 f2 : List ℕ) where
       let (some, here) = failed_not_empty (is_empty failed) failed s (reporter_row reporters f1 f2) e in
       (here, rw here some)
 
-  pub failed_some : {s : Failures} → sender_check reporters sender whole f1 f2 ≡ Failed s → is_empty s ≡ false
+  pub failed_some : {s : Failures} → sender_check reporters sender whole f1 f2 ≡ Err s → is_empty s ≡ false
   failed_some e = (failed_set e).1
 
   -- its failures are all before the booking
-  pub failed_before : {s : Failures} → sender_check reporters sender whole f1 f2 ≡ Failed s → before_booking s ≡ s
+  pub failed_before : {s : Failures} → sender_check reporters sender whole f1 f2 ≡ Err s → before_booking s ≡ s
   failed_before e =
       let tests = sender_tests reporters sender whole f1 f2 in
       let l : length tests ≤ 7 = tests_length reporters sender whole f1 f2 in
       rw (failed_set e).0 (before_same tests 0 (omega arith))
 
-  pub failed_first : {s : Failures} → sender_check reporters sender whole f1 f2 ≡ Failed s → first_place s < 7
+  pub failed_first : {s : Failures} → sender_check reporters sender whole f1 f2 ≡ Err s → first_place s < 7
   failed_first e =
       let tests = sender_tests reporters sender whole f1 f2 in
       let l : length tests ≤ 7 = tests_length reporters sender whole f1 f2 in

@@ -1,11 +1,10 @@
 -- Places 0 to 6 of document 01, the sender check: fields 1 and 2, the reporters table and the sender.
 -- Assumes nothing.
-use Rattle.std.specs.Prelude.{ℕ, Bool, true, false, ◌&&◌, not, cond, List, [], ◌∷◌, ltb}
+use Rattle.std.specs.Prelude.{ℕ, Bool, true, false, ◌&&◌, not, cond, List, [], ◌∷◌, ltb, Result, Ok, Err}
+use Rattle.failures.specs.declared.Failures.{Failures}
 use Rattle.failures.specs.Failures.{added_from, no_failure, is_empty}
 use Rattle.fields.specs.Forms.{blank, filled, is, one_of}
 use Rattle.tables.specs.Reporters.{reporter_count, row_by_code, row_by_address, has_mailbox}
-use Rattle.sender.specs.declared.Checked.{Checked}
-use Rattle.sender.specs.declared.Checked.TheVariants.{Passed, Failed}
 
 -- the row found by F1 and F2; the count of rows where none is
 unfoldable pub reporter_row : List ℕ → List ℕ → List ℕ → ℕ
@@ -39,7 +38,7 @@ sender_tests reporters sender whole f1 f2 =
     cond whole (false ∷ reporter_tests reporters sender f1 f2 (reporter_row reporters f1 f2)) (true ∷ [])
 
 -- The sender check: a record passes it for the bank of a row when none of places 0 to 6 fails and the row is found.
-unfoldable pub sender_check : List ℕ → List ℕ → Bool → List ℕ → List ℕ → Checked
+unfoldable pub sender_check : List ℕ → List ℕ → Bool → List ℕ → List ℕ → Result ℕ Failures
 sender_check reporters sender whole f1 f2 =
     let failed = added_from no_failure 0 (sender_tests reporters sender whole f1 f2) in
-    cond (is_empty failed) (Passed (reporter_row reporters f1 f2)) (Failed failed)
+    cond (is_empty failed) (Ok (reporter_row reporters f1 f2)) (Err failed)

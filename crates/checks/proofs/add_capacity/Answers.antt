@@ -6,4 +6,4 @@ pub returns : goal.returns
 unfolding capacity_group
 returns c =
     rw (c.add_from.ensures, c.judge_capacity-tests.ensures)
-    (rw (c.part.ensures.bytes, c.part-2.ensures.bytes, c.part-3.ensures.bytes, c.part-4.ensures.bytes) refl)
+    (rw (c.field.ensures.bytes, c.field-2.ensures.bytes, c.field-3.ensures.bytes, c.field-4.ensures.bytes) refl)

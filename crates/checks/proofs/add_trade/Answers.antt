@@ -6,5 +6,5 @@ pub returns : goal.returns
 unfolding trade_group
 returns c =
     rw (c.add_from.ensures, c.judge_trade-tests.ensures)
-    (rw (c.part.ensures.bytes, c.part-2.ensures.bytes, c.part-3.ensures.bytes, c.part-4.ensures.bytes)
-    (rw (c.part-5.ensures.bytes, c.part-6.ensures.bytes, c.part-7.ensures.bytes) refl))
+    (rw (c.field.ensures.bytes, c.field-2.ensures.bytes, c.field-3.ensures.bytes, c.field-4.ensures.bytes)
+    (rw (c.field-5.ensures.bytes, c.field-6.ensures.bytes, c.field-7.ensures.bytes) refl))
