@@ -8,25 +8,7 @@ use lib.ListN.{length, length-append}
 use Rattle.text.specs.Text.{bytes}
 use Rattle.envelope.specs.Body.{crlf}
 use Rattle.envelope.specs.Written.{Envelope, lines_then, written}
-use Rattle.page.specs.Page.{Page, appended}
-use Rattle.page.proofs.PageLaws.{appended_on}
 use Rattle.enclosing.specs.Enclosing.{head_text, tail_text}
-
--- a page with the pieces of a head behind its text, one after another
-pub head_appended : (p : Page) (sender receiver date time word class : List ℕ) {front s r d t w k : Page}
-    → front ≡ appended p (bytes "UNB+UNOA:1+")
-    → s ≡ appended front (sender ++ bytes "+")
-    → r ≡ appended s (receiver ++ bytes "+")
-    → d ≡ appended r (date ++ bytes ":")
-    → t ≡ appended d (time ++ bytes "+")
-    → w ≡ appended t word
-    → k ≡ appended w (class ++ crlf)
-    → k ≡ appended p (head_text sender receiver date time word class)
-unfolding head_text
-head_appended p sender receiver date time word class to_front to-sender to-receiver to-date to-time to_word to-class =
-    let parts = appended_on p _ _ (appended_on p _ _ to_front to-sender) to-receiver in
-    let whole = appended_on p _ _ (appended_on p _ _ parts to-date) to-time in
-    appended_on p _ _ (appended_on p _ _ whole to_word) to-class
 
 -- the lines of records, whatever follows them
 pub lines_then_lem : (rs : List (List ℕ)) (rest : List ℕ) → lines_then rs rest ≡ lines_then rs [] ++ rest
