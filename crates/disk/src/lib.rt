@@ -1,32 +1,31 @@
 // Files that are read whole, as far as a buffer has room, and files that are saved whole.
 #![tactic(auto)]
 
-ghost use Rattle.std.specs.Prelude.{◌&&◌, ◌≡◌, IfOk};
+ghost use Rattle.std.specs.Prelude.{◌&&◌, ◌≡◌, is_ok};
 ghost use Rattle.io.specs.Counts.{IsPrefixLen};
+ghost use Rattle.disk.specs.Loaded.{filled};
 
 use std::fmt::{Display, Formatter};
 use std::fs::{OpenFile, OpenOptions};
-use std::io::{Cursor, Error, ErrorKind, Read, Result, Write};
+use std::io::{Cursor, Error, ErrorKind, Read, Write};
 use std::rt::Files;
-use std::{fmt, fs, str};
+use std::{fmt, fs, io, str};
 
 // The system's number for bytes that are no text: a path has to be text.
 const NO_TEXT: i32 = 84;
 
-// How many bytes of the buffer a file filled, whether all of it could be read, and why where it could not.
+// Why a file could not be read, and how many bytes of the buffer it had filled by then.
 #[derive(Clone, Copy)]
-pub struct Loaded {
+pub struct Unread {
     pub bytes: usize,
-    pub readable: bool,
-    pub why: Option<Error>,
+    pub why: Error,
 }
 
-// What became of a save: whether all bytes were written, whether they then took the name, and why where one of the two failed.
+// What became of a save: of the writing of all bytes, and of their taking the name, which fails for the same reason where the writing failed.
 #[derive(Clone, Copy)]
 pub struct Saved {
-    pub written: bool,
-    pub named: bool,
-    pub why: Option<Error>,
+    pub written: io::Result<()>,
+    pub named: io::Result<()>,
 }
 
 // Bytes as the text that they are; what is none is shown as U+FFFD.
@@ -67,60 +66,39 @@ impl Display for Reason {
 }
 
 // A path as the text that the library asks for.
-fn text_of(path: &[u8]) -> Result<&str> {
-    match str::from_utf8(path) {
-        Ok(text) => Ok(text),
-        Err(_) => Err(Error::from_raw_os_error(NO_TEXT)),
-    }
-}
-
-// What is told of a file that could not be read behind so many bytes.
-fn unreadable(bytes: usize, why: Error) -> Loaded
-    ensures { result.bytes ≡ bytes }
-{
-    Loaded {
-        bytes,
-        readable: false,
-        why: Some(why),
-    }
+fn text_of(path: &[u8]) -> io::Result<&str> {
+    str::from_utf8(path).map_err(|_| Error::from_raw_os_error(NO_TEXT))
 }
 
 // Reads an open file to its end, or as far as there is room.
-fn read_open(file: &mut impl Read, buffer: &mut [u8]) -> Loaded
-    ensures { IsPrefixLen result.bytes buffer.new }
+fn read_open(file: &mut impl Read, buffer: &mut [u8]) -> Result<usize, Unread>
+    ensures { IsPrefixLen (filled result) buffer.new }
 {
-    let mut done = 0;
-    while done < buffer.len() {
-        match file.read(&mut buffer[done..]) {
+    let mut bytes = 0;
+    // As it is: each read goes on where the one before it ended, wherever that was, and no iterator gives such steps.
+    while bytes < buffer.len() {
+        match file.read(&mut buffer[bytes..]) {
             Ok(0) => break,
-            Ok(n) => done += n,
-            Err(e) => return unreadable(done, e),
+            Ok(n) => bytes += n,
+            Err(why) => return Err(Unread { bytes, why }),
         }
     }
-    Loaded {
-        bytes: done,
-        readable: true,
-        why: None,
-    }
+    Ok(bytes)
 }
 
 // Opens a file for reading.
-fn open_read<R: Files>(rt: &R, path: &[u8]) -> Result<R::File> {
+fn open_read<R: Files>(rt: &R, path: &[u8]) -> io::Result<R::File> {
     fs::open(rt, text_of(path)?)
 }
 
 // Reads a file. A missing one counts as empty; of one that cannot be read it is told why.
-pub fn load(rt: &impl Files, path: &[u8], buffer: &mut [u8]) -> Loaded
-    ensures { IsPrefixLen result.bytes buffer.new }
+pub fn load(rt: &impl Files, path: &[u8], buffer: &mut [u8]) -> Result<usize, Unread>
+    ensures { IsPrefixLen (filled result) buffer.new }
 {
     match open_read(rt, path) {
         Ok(mut file) => read_open(&mut file, buffer),
-        Err(why) if why.kind() == ErrorKind::NotFound => Loaded {
-            bytes: 0,
-            readable: true,
-            why: None,
-        },
-        Err(why) => unreadable(0, why),
+        Err(why) if why.kind() == ErrorKind::NotFound => Ok(0),
+        Err(why) => Err(Unread { bytes: 0, why }),
     }
 }
 
@@ -133,15 +111,17 @@ fn fail(rt: &impl Eprint, what: &[u8], why: Error) {
 pub fn load_or_fail(rt: &(impl Files + Eprint), path: &[u8], buffer: &mut [u8]) -> usize
     ensures { IsPrefixLen result buffer.new }
 {
-    let loaded = load(rt, path, buffer);
-    if let Some(why) = loaded.why {
-        fail(rt, path, why);
+    match load(rt, path, buffer) {
+        Ok(bytes) => bytes,
+        Err(unread) => {
+            fail(rt, path, unread.why);
+            unread.bytes
+        }
     }
-    loaded.bytes
 }
 
 // Writes all bytes to a new file, and waits until they have reached its device.
-fn write_new(rt: &impl Files, path: &[u8], bytes: &[u8]) -> Result<()> {
+fn write_new(rt: &impl Files, path: &[u8], bytes: &[u8]) -> io::Result<()> {
     let mut file = OpenOptions::new()
         .write(true)
         .create_new(true)
@@ -165,20 +145,23 @@ fn remove(rt: &impl Files, path: &[u8]) {
 }
 
 // Gives a file another name, and takes that from what had it.
-fn rename(rt: &impl Files, from: &[u8], to: &[u8]) -> Result<()> {
+fn rename(rt: &impl Files, from: &[u8], to: &[u8]) -> io::Result<()> {
     fs::rename(rt, text_of(from)?, text_of(to)?)
 }
 
-// Gives the name to what was written whole, and to nothing else: whether it took the name.
-fn take_name(rt: &impl Files, written: bool, temporary: &[u8], name: &[u8]) -> Result<bool>
-    ensures { IfOk result (λ named. named ≡ (written && named)) }
+// Gives the name to what was written whole, and to nothing else.
+fn take_name(
+    rt: &impl Files,
+    written: io::Result<()>,
+    temporary: &[u8],
+    name: &[u8],
+) -> io::Result<()>
+    ensures { is_ok result ≡ (is_ok written && is_ok result) }
 {
-    if !written {
-        return Ok(false);
-    }
+    written?;
     rename(rt, temporary, name)?;
     sync_folder(rt);
-    Ok(true)
+    Ok(())
 }
 
 // Saves a file in the working directory, so that its name always stands for a whole one: it is written under a temporary name, which a stopped
@@ -186,27 +169,18 @@ fn take_name(rt: &impl Files, written: bool, temporary: &[u8], name: &[u8]) -> R
 // written only after it has said so. What the promise can tell: the name is taken only by what was written whole. What a name then stands for is
 // the operating system's word.
 pub fn save(rt: &impl Files, bytes: &[u8], temporary: &[u8], name: &[u8]) -> Saved
-    ensures { result.named ≡ (result.written && result.named) }
+    ensures { is_ok result.named ≡ (is_ok result.written && is_ok result.named) }
 {
     remove(rt, temporary);
-    let wrote = write_new(rt, temporary, bytes);
-    let written = wrote.is_ok();
-    let took = take_name(rt, written, temporary, name);
-    let named = took.unwrap_or(false);
-    let why = wrote.err().or(took.err());
-    Saved {
-        written,
-        named,
-        why,
-    }
+    let written = write_new(rt, temporary, bytes);
+    let named = take_name(rt, written, temporary, name);
+    Saved { written, named }
 }
 
 // Says on standard error what was not done, and why: what failed, on which file, and the system's reason.
-fn complain(rt: &impl Eprint, undone: &[u8], doing: &[u8], path: &[u8], why: Option<Error>) {
-    if let Some(e) = why {
-        let _ = eprint!(rt; "{}{}", Shown { bytes: undone }, Shown { bytes: doing });
-        fail(rt, path, e);
-    }
+fn complain(rt: &impl Eprint, undone: &[u8], doing: &[u8], path: &[u8], why: Error) {
+    let _ = eprint!(rt; "{}{}", Shown { bytes: undone }, Shown { bytes: doing });
+    fail(rt, path, why);
 }
 
 // Reads a file as `load` does, and says what is not done where it cannot be read.
@@ -215,12 +189,12 @@ pub fn load_or_complain(
     path: &[u8],
     buffer: &mut [u8],
     undone: &[u8],
-) -> Loaded
-    ensures { IsPrefixLen result.bytes buffer.new }
+) -> Result<usize, Unread>
+    ensures { IsPrefixLen (filled result) buffer.new }
 {
     let loaded = load(rt, path, buffer);
-    if !loaded.readable {
-        complain(rt, undone, b"cannot read ", path, loaded.why);
+    if let Err(unread) = loaded {
+        complain(rt, undone, b"cannot read ", path, unread.why);
     }
     loaded
 }
@@ -233,16 +207,16 @@ pub fn save_or_complain(
     name: &[u8],
     undone: &[u8],
 ) -> Saved
-    ensures { result.named ≡ (result.written && result.named) }
+    ensures { is_ok result.named ≡ (is_ok result.written && is_ok result.named) }
 {
     let saved = save(rt, bytes, temporary, name);
-    if !saved.written {
-        complain(rt, undone, b"cannot write ", temporary, saved.why);
+    if let Err(why) = saved.written {
+        complain(rt, undone, b"cannot write ", temporary, why);
         remove(rt, temporary);
         return saved;
     }
-    if !saved.named {
-        complain(rt, undone, b"cannot replace ", name, saved.why);
+    if let Err(why) = saved.named {
+        complain(rt, undone, b"cannot replace ", name, why);
         remove(rt, temporary);
     }
     saved
