@@ -4,3 +4,4 @@ pub mod OrderLaws
 pub mod NumberLaws
 pub mod WordLaws
 pub mod SearchLaws
+pub mod SameLaws

@@ -2,6 +2,9 @@
 #![tactic(auto)]
 
 ghost use Rattle.std.specs.Prelude.{◌≡◌, ◌≤◌, ◌<◌, ◌^◌, eqb, length, take, drop};
+ghost use Rattle.std.specs.Prelude.{ℕ};
+ghost use Rattle.std.proofs.Common.{rules};
+ghost use Rattle.frame.specs.Every.{within};
 ghost use Rattle.text.specs.Class.{belongs_to, is_digit, is_capital, is_word_byte, is_record_byte, is_text_byte, is_zero};
 ghost use Rattle.text.specs.Bytes.{all as all_of, same as same_bytes, position_of};
 ghost use Rattle.text.specs.Part.{Lies, rest_start};
@@ -24,6 +27,78 @@ pub enum Class {
     Space,
     Zero,
     TextByte,
+}
+
+// A number that stands in so many bytes, the lowest first.
+pub trait Word: Copy {
+    ghost SIZE: { ℕ };
+
+    const SIZE: usize;
+
+    ghost number: { Self → ℕ };
+
+    fn of(x: u64) -> Self
+        requires { x < 256 ^ SIZE }
+        ensures { number result ≡ x };
+
+    fn wide(self) -> u64
+        ensures { result ≡ number self };
+
+    ghost short: { SIZE ≤ 8 };
+}
+
+impl Word for u16 {
+    ghost SIZE = { 2 };
+
+    const SIZE: usize = 2;
+
+    ghost number = { λ x. x };
+
+    ghost short = { Prim.search rules };
+
+    fn of(x: u64) -> u16 {
+        x as u16
+    }
+
+    fn wide(self) -> u64 {
+        u64::from(self)
+    }
+}
+
+impl Word for u32 {
+    ghost SIZE = { 4 };
+
+    const SIZE: usize = 4;
+
+    ghost number = { λ x. x };
+
+    ghost short = { Prim.search rules };
+
+    fn of(x: u64) -> u32 {
+        x as u32
+    }
+
+    fn wide(self) -> u64 {
+        u64::from(self)
+    }
+}
+
+impl Word for u64 {
+    ghost SIZE = { 8 };
+
+    const SIZE: usize = 8;
+
+    ghost number = { λ x. x };
+
+    ghost short = { Prim.search rules };
+
+    fn of(x: u64) -> u64 {
+        x
+    }
+
+    fn wide(self) -> u64 {
+        self
+    }
 }
 
 // How two texts stand to each other in the order of their bytes, the first that differs deciding; a beginning comes before the whole.
@@ -113,20 +188,11 @@ pub fn all(c: Class, s: &[u8]) -> bool
 }
 
 // Whether a and b hold the same bytes; the last are compared first, since numbers and bank codes begin alike.
+#[tactic(auto, using(crate::proofs::SameLaws::eq_same))]
 pub fn same(a: &[u8], b: &[u8]) -> bool
     ensures { result ≡ same_bytes a.now b.now }
 {
-    if a.len() != b.len() {
-        return false;
-    }
-    let mut i = a.len();
-    while 0 < i {
-        i -= 1;
-        if a[i] != b[i] {
-            return false;
-        }
-    }
-    true
+    a == b
 }
 
 // How a stands to b in the order of their bytes.
@@ -152,18 +218,11 @@ pub fn compare(a: &[u8], b: &[u8]) -> Order
     Order::Same
 }
 
-// Where b first stands in s; the length of s where it doesn't.
-pub fn position(s: &[u8], b: u8) -> usize
-    ensures { result ≡ position_of b s.now }
+// Where b first stands in s, if it does.
+pub fn position(s: &[u8], b: u8) -> Option<usize>
+    ensures { result ≡ within (length s.now) (position_of b s.now) }
 {
-    let mut i = 0;
-    while i < s.len() {
-        if s[i] == b {
-            return i;
-        }
-        i += 1;
-    }
-    i
+    s.iter().position(|x| *x == b)
 }
 
 // The first k bytes of s, as a part of it; all of s where it has fewer.
@@ -305,4 +364,18 @@ pub fn write_u64(s: &mut [u8], at: usize, x: u64)
     ensures { s.new ≡ number_put 8 at x s.old }
 {
     put_at(s, at, 8, x);
+}
+
+// The number in the bytes of s from a place on, the lowest first; 0 where they are not all there.
+pub fn read<W: Word>(s: &[u8], at: usize) -> W
+    ensures { W.number result ≡ number_at W.SIZE at s.now }
+{
+    W::of(number_at(s, at, W::SIZE))
+}
+
+// Writes x into the bytes of s from a place on, the lowest first; nothing where they are not all there.
+pub fn write<W: Word>(s: &mut [u8], at: usize, x: W)
+    ensures { s.new ≡ number_put W.SIZE at (W.number x) s.old }
+{
+    put_at(s, at, W::SIZE, x.wide());
 }

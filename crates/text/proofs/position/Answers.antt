@@ -1,12 +1,10 @@
-use borrow.Author.Rules.{rules}
-use Rattle.text.proofs.ByteLaws.{position_go, position_stop, position_end}
+use Rattle.std.proofs.Common.{rules, tests, ◌∙◌, nat_eq}
+use Rattle.std.proofs.lemmas.Iterator.{YieldsList-from_slice}
+use Rattle.std.proofs.lemmas.Iterator.Search.{position_from_yields_List}
+use Rattle.text.proofs.SameLaws.{position_first}
 use Rattle.text.proofs.position.Goals as goal
 
-pub returns-then-s-i : goal.returns-then-s-i
-returns-then-s-i c = position_stop _ _ _ c.loop-i.invariant.1 c.loop-i-test.true c.if-s-i.true
-
-pub loop-i-preserved : goal.loop-i-preserved
-loop-i-preserved c = (search rules, position_go _ _ _ c.loop-i.invariant.1 c.loop-i-test.true c.if-s-i.false)
-
 pub returns : goal.returns
-returns c = position_end _ _ _ c.loop-i.invariant.1 c.loop-i.invariant.0 c.loop-i-test.false
+returns c =
+    let s = c.args.s.now in
+    position_from_yields_List (λ x. nat_eq x c.args.b) _ _ c.position.result c.position.ensures.ran (YieldsList-from_slice s cc) (λ x b q k. search (rules, tests)) ∙ position_first c.args.b s
