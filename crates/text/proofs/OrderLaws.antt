@@ -11,7 +11,7 @@ use lib.Dec.{ltb, eqb}
 use lib.ListN.{length, get_or, drop, drop_of_length-le}
 use lib.Seq.{drop-cons}
 use Rattle.frame.proofs.BoolLaws.{and_false}
-use Rattle.text.specs.declared.Order.TheVariants.{Less, Same, Greater}
+use Rattle.std.specs.declared.cmp.Ordering.TheVariants.{Less, Equal, Greater}
 use Rattle.text.specs.Bytes.{same}
 use Rattle.text.specs.Order.{order_of, is_less, below}
 
@@ -40,20 +40,20 @@ module _ (s t : List ℕ) (i : ℕ) (e : order_of s t ≡ order_of (drop i s) (d
   unfolding order_of
   order_shorter l h k = let m : i < length t = omega arith in sym (e ∙ rw (drop_of_length-le s h, drop-cons t i 0 m) refl)
 
-  pub order_end : length s ≤ i → length t ≤ length s → Same ≡ order_of s t
+  pub order_end : length s ≤ i → length t ≤ length s → Equal ≡ order_of s t
   unfolding order_of
   order_end h k = let m : length t ≤ i = omega arith in sym (e ∙ rw (drop_of_length-le s h, drop_of_length-le t m) refl)
 
 -- a text is ordered the same as itself, and as no other
-pub order_same : (s t : List ℕ) → order_of s t ≡ Same → same s t ≡ true
+pub order_same : (s t : List ℕ) → order_of s t ≡ Equal → same s t ≡ true
 unfolding order_of same
 order_same [] [] e = refl
 order_same [] (y ∷ t) e = let z : ◌≡◌ {A = ℕ} 0 1 = cc in absurd (omega arith)
 order_same (x ∷ s) [] e = let z : ◌≡◌ {A = ℕ} 0 1 = cc in absurd (omega arith)
 order_same (x ∷ s) (y ∷ t) e = go (ltb x y) (ltb y x) refl refl (order_same s t) e
   where
-    go : (a b : Bool) → ltb x y ≡ a → ltb y x ≡ b → (order_of s t ≡ Same → same s t ≡ true)
-        → cond a Less (cond b Greater (order_of s t)) ≡ Same → (eqb x y && same s t) ≡ true
+    go : (a b : Bool) → ltb x y ≡ a → ltb y x ≡ b → (order_of s t ≡ Equal → same s t ≡ true)
+        → cond a Less (cond b Greater (order_of s t)) ≡ Equal → (eqb x y && same s t) ≡ true
     go true b p q f e = let z : ◌≡◌ {A = ℕ} 0 1 = cc in absurd (omega arith)
     go false true p q f e = let z : ◌≡◌ {A = ℕ} 0 1 = cc in absurd (omega arith)
     go false false p q f e =
@@ -61,15 +61,15 @@ order_same (x ∷ s) (y ∷ t) e = go (ltb x y) (ltb y x) refl refl (order_same 
         rw (eq-eqb x y d, f e)
 
 -- what is below another is another
-pub order_differs : (s t : List ℕ) → (order_of s t ≡ Same → ⊥) → same s t ≡ false
+pub order_differs : (s t : List ℕ) → (order_of s t ≡ Equal → ⊥) → same s t ≡ false
 unfolding order_of same
 order_differs [] [] n = absurd (n refl)
 order_differs [] (y ∷ t) n = refl
 order_differs (x ∷ s) [] n = refl
 order_differs (x ∷ s) (y ∷ t) n = go (ltb x y) (ltb y x) refl refl (order_differs s t) n
   where
-    go : (a b : Bool) → ltb x y ≡ a → ltb y x ≡ b → ((order_of s t ≡ Same → ⊥) → same s t ≡ false)
-        → (cond a Less (cond b Greater (order_of s t)) ≡ Same → ⊥) → (eqb x y && same s t) ≡ false
+    go : (a b : Bool) → ltb x y ≡ a → ltb y x ≡ b → ((order_of s t ≡ Equal → ⊥) → same s t ≡ false)
+        → (cond a Less (cond b Greater (order_of s t)) ≡ Equal → ⊥) → (eqb x y && same s t) ≡ false
     go true b p q f n = let d : x < y = ltb-true x y p in rw (ne_eqb x y (omega arith))
     go false true p q f n = let d : y < x = ltb-true y x q in rw (ne_eqb x y (omega arith))
     go false false p q f n = rw (f n, and_false)

@@ -1,14 +1,16 @@
 -- Equality and search of slices by the standard library, in the words of this repository.
 -- Assumes nothing.
 use Rattle.std.specs.Prelude.{ℕ, suc, ◌+◌, Bool, true, false, cond, ltb, Some, None, List, [], ◌∷◌, length, ◌≡◌, nat_eq, refl}
-use Rattle.std.specs.Cmp.Lexicographic.{pointwise}
+use Rattle.std.specs.Cmp.Lexicographic.{pointwise, slice_cmp}
 use Rattle.std.specs.List.{position}
 use Rattle.std.proofs.Common.{ap, sym, arith}
 use Rattle.std.proofs.lemmas.List.Recursion.{is_position_or_len}
 use Rattle.std.specs.Option.{unwrap_or}
+use Rattle.std.specs.Ordering.{nat_cmp}
 use borrow.Author.Tests.{ltb-false}
 use Rattle.frame.specs.Every.{within}
 use Rattle.text.specs.Bytes.{same, position_of}
+use Rattle.text.specs.Order.{order_of}
 use Rattle.text.proofs.ByteLaws.{position_le}
 
 -- what `a == b` says of two byte slices is that they hold the same bytes
@@ -34,3 +36,11 @@ position_or_end b s = go (ltb (position_of b s) (length s)) refl
     go : (t : Bool) → ltb (position_of b s) (length s) ≡ t → unwrap_or (cond t (Some (position_of b s)) None) (length s) ≡ position_of b s
     go true e = refl
     go false e = omega (arith, ltb-false _ _ e, position_le b s)
+
+-- what `a.cmp(b)` says of two byte slices is how they stand in the order of their bytes
+pub cmp_order : (s t : List ℕ) → slice_cmp nat_cmp s t ≡ order_of s t
+unfolding order_of
+cmp_order [] [] = refl
+cmp_order [] (y ∷ t) = refl
+cmp_order (x ∷ s) [] = refl
+cmp_order (x ∷ s) (y ∷ t) = grind (arith, cmp_order s t)

@@ -12,8 +12,8 @@ use lib.Dec.{eqb}
 use Rattle.frame.specs.Every.{least}
 use Rattle.frame.proofs.EveryLaws.{every_at}
 use Rattle.frame.proofs.LeastLaws.{least_below, least_hit, least_none}
-use Rattle.text.specs.declared.Order.{Order}
-use Rattle.text.specs.declared.Order.TheVariants.{Less, Same, Greater}
+use Rattle.std.specs.declared.cmp.Ordering.{Ordering}
+use Rattle.std.specs.declared.cmp.Ordering.TheVariants.{Less, Equal, Greater}
 use Rattle.text.specs.Bytes.{same}
 use Rattle.text.specs.Order.{order_of, is_less, below}
 use Rattle.text.specs.Search.{is_among, follows, ascend, middle, searched, found}
@@ -91,14 +91,14 @@ module _ (count : ℕ) (key : ℕ → List ℕ) (s : List ℕ) where
   left_none low high f h = sym (f.1 ∙ searched_empty key s (high - low) low high h)
 
   -- one turn, where r is how w, the key in the middle, stands to s
-  module _ (low high : ℕ) (f : Left low high) (h : low < high) {w : List ℕ} {r : Order} (lent : w ≡ key (middle low high)) (compared : r ≡ order_of w s) where
+  module _ (low high : ℕ) (f : Left low high) (h : low < high) {w : List ℕ} {r : Ordering} (lent : w ≡ key (middle low high)) (compared : r ≡ order_of w s) where
     order : order_of (key (middle low high)) s ≡ r
     order = ap (λ (v : List ℕ). order_of v s) (sym lent) ∙ sym compared
 
     turned : found count key s ≡ searched (suc (high - low - 1)) key s low high
     turned = let e : high - low ≡ suc (high - low - 1) = omega arith in f.1 ∙ ap (λ (n : ℕ). searched n key s low high) e
 
-    pub left_hit : r ≡ Same → true ≡ found count key s
+    pub left_hit : r ≡ Equal → true ≡ found count key s
     left_hit e = sym (turned ∙ searched_hit key s (high - low - 1) low high h (order_same _ _ (order ∙ e)))
 
     pub left_above : r ≡ Less → Left (middle low high + 1) high

@@ -16,8 +16,8 @@ use lib.Seq.{take-suc, take_all}
 use Rattle.frame.proofs.BoolLaws.{and_left, and_right}
 use Rattle.text.specs.Bytes.{all}
 use Rattle.text.specs.Number.{big_endian}
-use Rattle.text.specs.declared.Order.{Order}
-use Rattle.text.specs.declared.Order.TheVariants.{Less, Greater}
+use Rattle.std.specs.declared.cmp.Ordering.{Ordering}
+use Rattle.std.specs.declared.cmp.Ordering.TheVariants.{Less, Greater}
 use Rattle.text.specs.Order.{order_of, is_less, below}
 use Rattle.text.proofs.ByteLaws.{is_byte}
 
@@ -74,7 +74,7 @@ digits_order base x y s t p q = go (dec_lt x y) (dec_lt y x) (dec_lt s t)
         let e : x ≡ y = omega arith in
         more (rw e (omega arith)) ∙ rw (le-ltb x y (omega arith), le-ltb y x (omega arith), le-ltb s t (omega arith))
 
-less_cond : (a b : Bool) (o : Order) → is_less (cond a Less (cond b Greater o)) ≡ cond a true (cond b false (is_less o))
+less_cond : (a b : Bool) (o : Ordering) → is_less (cond a Less (cond b Greater o)) ≡ cond a true (cond b false (is_less o))
 less_cond true b o = refl
 less_cond false true o = refl
 less_cond false false o = refl

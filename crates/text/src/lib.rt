@@ -11,6 +11,8 @@ ghost use Rattle.text.specs.Part.{Lies, rest_start};
 ghost use Rattle.text.specs.Order.{order_of};
 ghost use Rattle.text.specs.Number.{little_endian, big_endian, low_bytes, number_at, number_put};
 
+use std::cmp::Ordering;
+
 // The bytes that are tested for zeros at once: a loop over a count that is known is compiled to wide steps.
 const ZERO_BLOCK: usize = 1024;
 
@@ -101,14 +103,6 @@ impl Word for u64 {
     }
 }
 
-// How two texts stand to each other in the order of their bytes, the first that differs deciding; a beginning comes before the whole.
-#[derive(Clone, Copy)]
-pub enum Order {
-    Less,
-    Same,
-    Greater,
-}
-
 fn is_digit(b: u8) -> bool
     ensures { result ≡ is_digit b }
 {
@@ -195,27 +189,12 @@ pub fn same(a: &[u8], b: &[u8]) -> bool
     a == b
 }
 
-// How a stands to b in the order of their bytes.
-pub fn compare(a: &[u8], b: &[u8]) -> Order
+// How a stands to b in the order of their bytes, the first that differs deciding; a beginning comes before the whole.
+#[tactic(auto, using(crate::proofs::SameLaws::cmp_order))]
+pub fn compare(a: &[u8], b: &[u8]) -> Ordering
     ensures { result ≡ order_of a.now b.now }
 {
-    let mut i = 0;
-    while i < a.len() {
-        if b.len() <= i {
-            return Order::Greater;
-        }
-        if a[i] < b[i] {
-            return Order::Less;
-        }
-        if b[i] < a[i] {
-            return Order::Greater;
-        }
-        i += 1;
-    }
-    if a.len() < b.len() {
-        return Order::Less;
-    }
-    Order::Same
+    a.cmp(&b)
 }
 
 // Where b first stands in s, if it does.
