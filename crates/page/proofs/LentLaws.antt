@@ -4,8 +4,8 @@ use Prim.Native.Nat.{ℕ, ◌+◌, ◌-◌, ◌<◌, ◌≤◌, min}
 use native.Mathlib.Omega.{arith}
 use lib.ListN.{length, take, drop}
 use lib.Seq.{drop-drop}
-use mathlib.Core.List.{List, ◌++◌, append_assoc}
-use mathlib.Core.Path.{◌≡◌, ap, sym, ◌∙◌}
+use mathlib.Core.List.{List, [], ◌++◌, append_assoc}
+use mathlib.Core.Path.{◌≡◌, refl, ap, sym, ◌∙◌}
 use Rattle.page.specs.Page.{page, appended}
 use Rattle.page.specs.declared.Page.{Page as Lent}
 use Rattle.page.specs.Lent.{page_of, with_page, with_text}
@@ -15,6 +15,11 @@ use Rattle.page.proofs.PageLaws.{appended_both, appended_full, appended_cut}
 pub with_both : (p : Lent) (s t : List ℕ) → with_text (with_text p s) t ≡ with_text p (s ++ t)
 unfolding with_text
 with_both p s t = ap (with_page p) (appended_both (page_of p) s t)
+
+-- nothing more in it
+pub with_nothing : (p : Lent) → with_text p [] ≡ p
+unfolding with_text appended
+with_nothing p = refl
 
 -- a text, and one more behind it
 pub with_on : (p : Lent) (s t : List ℕ) {q r : Lent} → q ≡ with_text p s → r ≡ with_text q t → r ≡ with_text p (s ++ t)

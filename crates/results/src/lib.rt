@@ -1,116 +1,107 @@
 // The lines that tell of a file call, its refusal or what became of each record, of an error file, and of records that are judged without booking.
-#![tactic(auto)]
+#![tactic(auto, using(page::proofs::LentLaws::with_both, std::proofs::Common::append_assoc), unfolding(crate::specs::Results::row_text, crate::specs::Results::line_text, crate::specs::Results::accepted_text, crate::specs::Results::refused_text, crate::specs::Results::written_text, crate::specs::Results::refused_line_text, crate::specs::Results::would_book_text))]
 
-ghost use Rattle.std.specs.Prelude.{◌≡◌};
-ghost use Rattle.page.specs.Page.{page, appended};
-ghost use Rattle.results.specs.Results.{row_text, line_text, lines_text, booked_count, accepted_text, refused_text, written_text};
+ghost use Rattle.std.specs.Prelude.{◌≡◌, ◌++◌};
+ghost use Rattle.page.specs.Lent.{with_text};
+ghost use Rattle.page.specs.Number.{number_text};
+ghost use Rattle.results.specs.Results.{line_feed, row_text, line_text, lines_text, booked_count, accepted_text, refused_text, written_text};
 ghost use Rattle.results.specs.Results.{refused_line_text, would_book_text};
 
 use answer::{Answer, BOOKED, NO_REPORTER};
-use page::{append, append_code, append_number};
+use page::Page;
 
 // Writes a reporter's row, or - for none.
-fn append_row(out: &mut [u8], at: usize, row: u8) -> usize
-    ensures { page out.new result ≡ appended (page out.old at) (row_text row) }
+fn append_row(page: &mut Page, row: u8)
+    ensures { page.new ≡ with_text page.old (row_text row) }
 {
     if row == NO_REPORTER {
-        return append(out, at, b"-");
+        page.append(b"-");
+    } else {
+        page.append_number(u64::from(row));
     }
-    append_number(out, at, row as u64)
 }
 
 // Writes the line of a record: its number, its first code, its count of failures, its reporter's row.
-pub fn append_line(out: &mut [u8], at: usize, number: u64, a: Answer) -> usize
-    ensures { page out.new result ≡ appended (page out.old at) (line_text number a) }
+pub fn append_line(page: &mut Page, number: u64, a: Answer)
+    ensures { page.new ≡ with_text page.old (line_text number a) }
 {
-    let failed = a.failed;
-    let mut end = append_number(out, at, number);
-    end = append(out, end, b" ");
-    end = append_code(out, end, a.code);
-    end = append(out, end, b" ");
-    end = append_number(out, end, failed.count() as u64);
-    end = append(out, end, b" ");
-    end = append_row(out, end, a.row);
-    append(out, end, b"\n")
+    page.append_number(number);
+    page.append(b" ");
+    page.append_code(a.code);
+    page.append(b" ");
+    page.append_number(u64::from(a.failed.count()));
+    page.append(b" ");
+    append_row(page, a.row);
+    page.append(b"\n");
 }
 
 // Writes the lines of n records.
-fn append_lines(out: &mut [u8], at: usize, answers: &[u8], n: usize) -> usize
-    ensures { page out.new result ≡ appended (page out.old at) (lines_text n answers.now) }
+#[tactic(auto, using(page::proofs::LentLaws::with_nothing, crate::proofs::ResultLaws::lines_more), unfolding(crate::specs::Results::lines_text))]
+fn append_lines(page: &mut Page, answers: &[u8], n: usize)
+    ensures { page.new ≡ with_text page.old (lines_text n answers.now) }
 {
-    let mut end = at;
-    let mut k = 0;
-    while k < n {
-        end = append_line(out, end, k as u64 + 1, answer::answer_to(answers, k));
-        k += 1;
+    for k in 0..n {
+        append_line(page, k as u64 + 1, answer::answer_to(answers, k));
     }
-    end
 }
 
 // How many of n records are booked.
+#[tactic(auto, using(frame::proofs::EveryLaws::many_none, frame::proofs::EveryLaws::many_more, frame::proofs::EveryLaws::many_same, frame::proofs::EveryLaws::many_most), unfolding(crate::specs::Results::booked_count))]
 fn booked(answers: &[u8], n: usize) -> u64
     ensures { result ≡ booked_count n answers.now }
 {
     let mut count = 0;
-    let mut k = 0;
-    while k < n {
-        let a = answer::answer_to(answers, k);
-        if a.status == BOOKED {
+    for k in 0..n {
+        if answer::answer_to(answers, k).status == BOOKED {
             count += 1;
-            k += 1;
-        } else {
-            k += 1;
         }
     }
     count
 }
 
-// Writes what is printed of a file call that is accepted, with n records.
-pub fn accepted(out: &mut [u8], answers: &[u8], n: usize) -> usize
-    ensures { page out.new result ≡ appended (page out.old 0) (accepted_text n answers.now) }
+// Writes a line of a label and a number.
+fn append_labelled(page: &mut Page, label: &[u8], n: u64)
+    ensures { page.new ≡ with_text page.old (label.now ++ number_text n ++ line_feed) }
 {
-    let mut end = append(out, 0, b"records ");
-    end = append_number(out, end, n as u64);
-    end = append(out, end, b"\n");
-    end = append_lines(out, end, answers, n);
-    end = append(out, end, b"booked ");
-    end = append_number(out, end, booked(answers, n));
-    append(out, end, b"\n")
+    page.append(label);
+    page.append_number(n);
+    page.append(b"\n");
+}
+
+// Writes what is printed of a file call that is accepted, with n records.
+pub fn accepted(page: &mut Page, answers: &[u8], n: usize)
+    ensures { page.new ≡ with_text page.old (accepted_text n answers.now) }
+{
+    append_labelled(page, b"records ", n as u64);
+    append_lines(page, answers, n);
+    append_labelled(page, b"booked ", booked(answers, n));
 }
 
 // Writes what is printed of a call that is refused.
-pub fn refused(out: &mut [u8], n: u8) -> usize
-    ensures { page out.new result ≡ appended (page out.old 0) (refused_text n) }
+pub fn refused(page: &mut Page, n: u8)
+    ensures { page.new ≡ with_text page.old (refused_text n) }
 {
-    let mut end = append(out, 0, b"refused ");
-    end = append_number(out, end, n as u64);
-    append(out, end, b"\n")
+    append_labelled(page, b"refused ", u64::from(n));
 }
 
 // Writes what is printed of an error file that is written, of so many bytes.
-pub fn written(out: &mut [u8], n: u64) -> usize
-    ensures { page out.new result ≡ appended (page out.old 0) (written_text n) }
+pub fn written(page: &mut Page, n: u64)
+    ensures { page.new ≡ with_text page.old (written_text n) }
 {
-    let mut end = append(out, 0, b"written ");
-    end = append_number(out, end, n);
-    append(out, end, b"\n")
+    append_labelled(page, b"written ", n);
 }
 
 // Writes the line of a record that is refused: its number, and the number of its refusal.
-pub fn append_refused_line(out: &mut [u8], at: usize, number: u64, refusal: u8) -> usize
-    ensures { page out.new result ≡ appended (page out.old at) (refused_line_text number refusal) }
+pub fn append_refused_line(page: &mut Page, number: u64, refusal: u8)
+    ensures { page.new ≡ with_text page.old (refused_line_text number refusal) }
 {
-    let mut end = append_number(out, at, number);
-    end = append(out, end, b" refused ");
-    end = append_number(out, end, refusal as u64);
-    append(out, end, b"\n")
+    page.append_number(number);
+    append_labelled(page, b" refused ", u64::from(refusal));
 }
 
 // Writes what is printed last of records that are judged without booking: how many would be booked.
-pub fn would_book(out: &mut [u8], count: u64) -> usize
-    ensures { page out.new result ≡ appended (page out.old 0) (would_book_text count) }
+pub fn would_book(page: &mut Page, count: u64)
+    ensures { page.new ≡ with_text page.old (would_book_text count) }
 {
-    let mut end = append(out, 0, b"would book ");
-    end = append_number(out, end, count);
-    append(out, end, b"\n")
+    append_labelled(page, b"would book ", count);
 }
