@@ -9,7 +9,7 @@ use native.Mathlib.Nat.{zero-add, mul-lt-mul_of_pos_right, one-le-pow, add-sub_o
 use native.Mathlib.Numerals.{add-one}
 use native.Mathlib.Omega.{arith}
 use lib.Dec.{lit<, leb, ltb}
-use borrow.Author.Tests.{leb-true, le-leb, lt-leb, lt-ltb, le-ltb, ltb-true}
+use borrow.Author.Tests.{leb-true, ltb-true}
 use lib.Arith.{digits_lt}
 use lib.Pow.{pow-add}
 use lib.ListN.{length, get_or, take, drop, drop_of_length-le}
@@ -17,7 +17,7 @@ use lib.Seq.{drop-cons}
 use Rattle.text.specs.Class.{is_digit}
 use Rattle.text.specs.Bytes.{all, position_of}
 use Rattle.frame.proofs.BoolLaws.{and_left, and_right}
-use Rattle.text.proofs.ByteLaws.{digit_high, take_rest}
+use Rattle.text.proofs.ByteLaws.{digit_high, all_get}
 use Rattle.text.proofs.NumberLaws.{digit_more, below_power}
 use Rattle.decimal.specs.Decimal.{digits_value_after, digits_value, digits_up_to, amount_of, whole_only, whole_and_part, decimal_at, decimal_of, value_of}
 use Rattle.decimal.specs.declared.Amount.{Amount}
@@ -73,37 +73,17 @@ both_below w f n e g l =
     let q : digits_value f * 10 ^ (n - length f) < 10 ^ (length f + (n - length f)) = scaled_below f (n - length f) g in
     rw pow-add (digits_lt (rw zero-add at p) (rw (add-sub_of_le l) at q))
 
--- the cases of the form
-pub whole_yes : (m n : ℕ) (w : List ℕ) {r : ℕ} {a : Amount} → digits_up_to m w ≡ true → r ≡ digits_value w * 10 ^ n → a ≡ amount_of (r + 0)
-    → Some a ≡ whole_only m n w
-unfolding whole_only
-whole_yes m n w e q told = rw (e, told, add-zero, q) refl
+-- so a word holds them
+pub scaled_fits : (s : List ℕ) (n : ℕ) → all is_digit s ≡ true → length s + n ≤ 19 → digits_value s * 10 ^ n < 2 ^ 64
+scaled_fits s n e h = fits_word (scaled_below s n e) h
 
-pub whole_no : (m n : ℕ) (w : List ℕ) → digits_up_to m w ≡ false → None ≡ whole_only m n w
-unfolding whole_only
-whole_no m n w e = rw e refl
+pub both_fits : (w f : List ℕ) (n : ℕ) → all is_digit w ≡ true → all is_digit f ≡ true → length f ≤ n → length w + n ≤ 19 → both_value n w f < 2 ^ 64
+both_fits w f n e g l h = fits_word (both_below w f n e g l) h
 
-pub both_yes : (m n : ℕ) (w f : List ℕ) {r q : ℕ} {a : Amount} → digits_up_to m w && digits_up_to n f ≡ true
-    → r ≡ digits_value w * 10 ^ n → q ≡ digits_value f * 10 ^ (n - length f) → a ≡ amount_of (r + q) → Some a ≡ whole_and_part m n w f
-unfolding whole_and_part
-both_yes m n w f e p q told = rw (e, told, p, q) refl
+-- what the proofs of the functions cite
+pub ruleset digit_laws = (number_go, number_end, all_get, digit_more)
 
-pub both_no : (m n : ℕ) (w f : List ℕ) → digits_up_to m w && digits_up_to n f ≡ false → None ≡ whole_and_part m n w f
-unfolding whole_and_part
-both_no m n w f e = rw e refl
-
-pub too_wide : (m n : ℕ) (s : List ℕ) → 19 < m + n → None ≡ decimal_of m n s
-unfolding decimal_of
-too_wide m n s h = rw (lt-leb _ _ h) refl
-
-pub with_part : (m n k : ℕ) (s : List ℕ) {r : Option Amount} → m + n ≤ 19 → k ≡ position_of 44 s → k < length s
-    → r ≡ whole_and_part m n (take k s) (take (length s - (k + 1)) (drop (k + 1) s)) → r ≡ decimal_of m n s
-unfolding decimal_of decimal_at
-with_part m n k s h e l q = rw (le-leb _ _ h, ← e, lt-ltb _ _ l) (rw take_rest at q)
-
-pub no_part : (m n k : ℕ) (s : List ℕ) {r : Option Amount} → m + n ≤ 19 → k ≡ position_of 44 s → length s ≤ k → r ≡ whole_only m n s → r ≡ decimal_of m n s
-unfolding decimal_of decimal_at
-no_part m n k s h e l q = rw (le-leb _ _ h, ← e, le-ltb _ _ l) q
+pub ruleset reading_laws = (upto_length, upto_digits, scaled_fits, both_fits)
 
 -- what is read where a test passes
 when_passed : (P : Amount → Type 0) (b : Bool) {x : ℕ} {a : Amount} → (b ≡ true → P (amount_of x)) → cond b (Some (amount_of x)) None ≡ Some a → P a

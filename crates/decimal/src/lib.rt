@@ -47,6 +47,7 @@ fn power(n: usize) -> u64
 }
 
 // Whether s is 1 to `most` digits.
+#[tactic(auto, unfolding(crate::specs::Decimal::digits_up_to))]
 fn is_digits(s: &[u8], most: usize) -> bool
     ensures { result ≡ digits_up_to most s.now }
 {
@@ -58,24 +59,24 @@ fn digit(b: u8) -> u64
     requires { is_digit b ≡ true }
     ensures { (result ≡ b - 48) × (result < 10) }
 {
-    b as u64 - 48
+    u64::from(b - b'0')
 }
 
 // The number that up to nineteen digits write.
+#[tactic(auto, using(crate::proofs::DecimalLaws::digit_laws))]
 fn number_of(s: &[u8]) -> u64
     requires { (length s.now ≤ 19) × (all is_digit s.now ≡ true) }
     ensures { result ≡ digits_value s.now }
 {
-    let mut v: u64 = 0;
-    let mut i = 0;
-    while i < s.len() {
-        v = v * 10 + digit(s[i]);
-        i += 1;
+    let mut v = 0;
+    for b in s {
+        v = v * 10 + digit(*b);
     }
     v
 }
 
 // The number that the digits write with n zeros behind them.
+#[tactic(auto, using(crate::proofs::DecimalLaws::reading_laws))]
 fn scaled(s: &[u8], n: usize) -> u64
     requires { (length s.now + n ≤ 19) × (all is_digit s.now ≡ true) }
     ensures { result ≡ digits_value s.now * 10 ^ n }
@@ -96,6 +97,7 @@ fn amount_of(whole: u64, part: u64) -> Amount
 }
 
 // The digits w, without a comma.
+#[tactic(auto, using(crate::proofs::DecimalLaws::reading_laws), unfolding(crate::specs::Decimal::whole_only))]
 fn read_whole(w: &[u8], m: usize, n: usize) -> Option<Amount>
     requires { m + n ≤ 19 }
     ensures { result ≡ whole_only m n w.now }
@@ -108,6 +110,7 @@ fn read_whole(w: &[u8], m: usize, n: usize) -> Option<Amount>
 }
 
 // The digits w, a comma and the digits f.
+#[tactic(auto, using(crate::proofs::DecimalLaws::reading_laws), unfolding(crate::specs::Decimal::whole_and_part))]
 fn read_both(w: &[u8], f: &[u8], m: usize, n: usize) -> Option<Amount>
     requires { m + n ≤ 19 }
     ensures { result ≡ whole_and_part m n w.now f.now }
@@ -120,13 +123,11 @@ fn read_both(w: &[u8], f: &[u8], m: usize, n: usize) -> Option<Amount>
 }
 
 // The value of s read as Nm,n; none where s is malformed, or m and n are together over 19.
+#[tactic(auto, unfolding(crate::specs::Decimal::decimal_of, crate::specs::Decimal::decimal_at))]
 pub fn read(s: &[u8], m: usize, n: usize) -> Option<Amount>
     ensures { result ≡ decimal_of m n s.now }
 {
-    if m > 19 {
-        return None;
-    }
-    if n > 19 - m {
+    if m > 19 || n > 19 - m {
         return None;
     }
     let k = text::position(s, b',');
