@@ -102,11 +102,7 @@ fn read_whole(w: &[u8], m: usize, n: usize) -> Option<Amount>
     requires { m + n ≤ 19 }
     ensures { result ≡ whole_only m n w.now }
 {
-    if is_digits(w, m) {
-        Some(amount_of(scaled(w, n), 0))
-    } else {
-        None
-    }
+    is_digits(w, m).then(|| amount_of(scaled(w, n), 0))
 }
 
 // The digits w, a comma and the digits f.
@@ -115,11 +111,7 @@ fn read_both(w: &[u8], f: &[u8], m: usize, n: usize) -> Option<Amount>
     requires { m + n ≤ 19 }
     ensures { result ≡ whole_and_part m n w.now f.now }
 {
-    if is_digits(w, m) & is_digits(f, n) {
-        Some(amount_of(scaled(w, n), scaled(f, n - f.len())))
-    } else {
-        None
-    }
+    (is_digits(w, m) & is_digits(f, n)).then(|| amount_of(scaled(w, n), scaled(f, n - f.len())))
 }
 
 // The value of s read as Nm,n; none where s is malformed, or m and n are together over 19.
