@@ -8,9 +8,11 @@ use mathlib.Core.Bool.{Bool, true, false, ◌&&◌, not, false≢true}
 use mathlib.Core.Logic.{◌≢◌}
 use mathlib.Core.Path.{◌≡◌, refl, ap, sym, ◌∙◌}
 use borrow.Author.Tests.{ltb-true, leb-true, eq-eqb, ne_eqb}
-use lib.Dec.{eqb, leb, ltb}
+use lib.Dec.{eqb, leb, ltb, lit≤}
 use lib.ListN.{get_or-eq_default}
+use Rattle.std.specs.List.{list_all}
 use Rattle.frame.specs.Every.{every}
+use Rattle.frame.proofs.ListLaws.{list_all_front}
 use Rattle.frame.proofs.BoolLaws.{and_left, and_right, and_intro, and_goes}
 use Rattle.frame.proofs.EveryLaws.{every_at, every_intro}
 use Rattle.failures.specs.Codes.{codes, code_at, is_no_code}
@@ -36,23 +38,12 @@ pub code_none : (k : ℕ) → 64 ≤ k → code_at k ≡ 0
 unfolding code_at codes
 code_none k h = get_or-eq_default codes 0 h
 
--- whether a code is none: 0 is not; another is by its places, as they are looked at one after another
-abbrev pub is_unlike : ℕ → ℕ → Bool
-is_unlike code k = not (eqb (code_at k) code)
-
-pub no_code_zero : (code : ℕ) → code ≡ 0 → false ≡ is_no_code code
-unfolding is_no_code
-no_code_zero code z = rw (eq-eqb code 0 z) refl
-
-pub unlike_more : (code k : ℕ) {none : Bool} → none ≡ every k (is_unlike code) → (none && is_unlike code k) ≡ every (k + 1) (is_unlike code)
-unfolding every
-unlike_more code k e = rw (e, add-one k) refl
-
-pub no_code_places : (code k : ℕ) {none : Bool} → code ≢ 0 → k ≤ 64 → 64 ≤ k → none ≡ every k (is_unlike code) → none ≡ is_no_code code
-unfolding is_no_code
-no_code_places code k some h g e =
-    let last : k ≡ 64 = omega arith in
-    and_goes _ (ap not (ne_eqb code 0 some)) (e ∙ ap (λ (n : ℕ). every n (is_unlike code)) last)
+-- a code that is not 0 is none where no code of the table is the same
+pub unlike_codes : (code : ℕ) → code ≢ 0 → list_all (λ c. not (eqb c code)) codes ≡ is_no_code code
+unfolding is_no_code code_at codes
+unlike_codes code some =
+    let each = list_all_front (λ c. not (eqb c code)) codes 0 (λ k. not (eqb (code_at k) code)) (λ k h. refl) 64 (lit≤ tt) in
+    each ∙ rw (ne_eqb code 0 some) refl
 
 -- what an answer may have as its code: 0, or four digits
 pub code_known : (code : ℕ) → is_no_code code ≡ false → code ≤ 9999

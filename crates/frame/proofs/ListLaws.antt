@@ -4,15 +4,16 @@ use Prim.Native.Nat.{ℕ, zero, suc, ◌+◌, ◌*◌, ◌/◌, ◌≤◌, ◌<�
 use native.Mathlib.Nat.{not-suc-le-zero, suc-mul}
 use native.Mathlib.Numerals.{add-one}
 use native.Mathlib.Omega.{arith}
-use mathlib.Core.Path.{◌≡◌, refl, ap, ◌∙◌}
-use mathlib.Core.Bool.{Bool, true, false, ◌&&◌, not, cond}
+use mathlib.Core.Path.{◌≡◌, refl, ap, sym, ◌∙◌}
+use mathlib.Core.Bool.{Bool, true, false, ◌&&◌, ◌||◌, not, cond}
 use mathlib.Core.List.{List, [], ◌∷◌}
 use lib.ListN.{length, get_or, take, drop}
 use lib.Seq.{drop-drop}
-use Rattle.std.specs.List.{list_all, position_or_len}
+use Rattle.std.specs.List.{fold, list_all, list_any, position_or_len}
 use Rattle.std.specs.Simd.{first_chunks}
 use Rattle.std.proofs.lemmas.List.Folds.{list_all_more}
 use Rattle.frame.specs.Every.{every, least}
+use Rattle.frame.proofs.BoolLaws.{and_true, and_assoc, or_false, or_assoc}
 use Rattle.frame.specs.Parts.{part, AreParts}
 
 -- a test of the first elements of a list is one of the numbers of their places
@@ -24,6 +25,15 @@ list_all_front p xs d q same (suc i) h =
     let inside : i < length xs = omega arith in
     let more : list_all p (take (suc i) xs) ≡ (list_all p (take i xs) && p (get_or xs i d)) = rw (← add-one) (list_all_more p xs i d inside) in
     more ∙ rw (list_all_front p xs d q same i (omega arith), same i inside) refl
+
+-- tests that are put together without an early end are those of the whole list
+pub fold_all : {A : Type 0} (p : A → Bool) (b : Bool) (xs : List A) → fold (λ b x. b && p x) b xs ≡ (b && list_all p xs)
+fold_all p b [] = sym (and_true b)
+fold_all p b (x ∷ xs) = fold_all p (b && p x) xs ∙ sym (and_assoc b (p x) (list_all p xs))
+
+pub fold_any : {A : Type 0} (p : A → Bool) (b : Bool) (xs : List A) → fold (λ b x. b || p x) b xs ≡ (b || list_any p xs)
+fold_any p b [] = sym (or_false b)
+fold_any p b (x ∷ xs) = fold_any p (b || p x) xs ∙ sym (or_assoc b (p x) (list_any p xs))
 
 -- where the first element stands that passes a test, the first number passes
 pub position_least : {A : Type 0} (p : A → Bool) (xs : List A) (d : A) (q : ℕ → Bool) → ((k : ℕ) → k < length xs → q k ≡ p (get_or xs k d))

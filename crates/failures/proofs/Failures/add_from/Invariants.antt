@@ -1,11 +1,8 @@
-use Prim.Native.Nat.{◌≤◌, ◌+◌, ◌-◌}
+use Prim.Native.Nat.{◌+◌}
 use mathlib.Core.Path.{◌≡◌}
-use lib.ListN.{length, drop}
+use lib.ListN.{drop}
 use Rattle.failures.specs.Failures.{added_from}
 use Rattle.failures.proofs.Failures.add_from.Given as goal
 
 abbrev pub invariant-loop-i : goal.invariant-loop-i
-invariant-loop-i l = (l.i ≤ length l.tests) × (added_from l.initial.set l.place l.tests ≡ added_from l.set (l.place + l.i) (drop l.i l.tests))
-
-abbrev pub decreases-loop-i : goal.decreases-loop-i
-decreases-loop-i l = length l.tests - l.i
+invariant-loop-i l = added_from l.initial.set l.place l.tests ≡ added_from l.set (l.place + l.i) (drop l.i l.tests)
