@@ -122,10 +122,8 @@ pub fn read(s: &[u8], m: usize, n: usize) -> Option<Amount>
     if m > 19 || n > 19 - m {
         return None;
     }
-    let k = text::position(s, b',');
-    if k < s.len() {
-        read_both(&s[..k], &s[k + 1..], m, n)
-    } else {
-        read_whole(s, m, n)
+    match text::position(s, b',') {
+        Some(k) => read_both(&s[..k], &s[k + 1..], m, n),
+        None => read_whole(s, m, n),
     }
 }
