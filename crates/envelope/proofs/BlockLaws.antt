@@ -1,6 +1,6 @@
 -- Laws of reading a record block by block: a block whose bytes are all above the apostrophe is of the record; a run ends in a block or goes on behind it.
 -- Assumes nothing.
-use Prim.Native.Nat.{ℕ, zero, suc, ◌+◌, ◌-◌, ◌<◌, ◌≤◌}
+use Prim.Native.Nat.{ℕ, zero, suc, ◌+◌, ◌-◌, ◌*◌, ◌/◌, ◌<◌, ◌≤◌}
 use native.Mathlib.Nat.{not-suc-le-zero, le_of_suc-le-suc}
 use native.Mathlib.Omega.{arith}
 use mathlib.Core.Bool.{Bool, true, false, cond}
@@ -10,6 +10,9 @@ use borrow.Author.Tests.{ltb-true, ne_eqb, eqb-true}
 use lib.Dec.{eqb}
 use lib.ListN.{length, get_or, take, drop, length-drop}
 use lib.Seq.{drop-drop}
+use Rattle.std.specs.Simd.{first_chunks}
+use Rattle.frame.specs.Parts.{part}
+use Rattle.frame.proofs.ListLaws.{chunks_parts}
 use Rattle.frame.proofs.BoolLaws.{and_left, and_right}
 use Rattle.text.specs.declared.Class.{Class}
 use Rattle.text.specs.declared.Class.TheVariants.{RecordByte, AboveApostrophe}
@@ -59,18 +62,29 @@ run_over k (suc n) (b ∷ l) h f = go (belongs_to k b) h (λ g. run_over k n l g
     go true g r = let e = r (le_of_suc-le-suc g) in omega arith
     go false g r = absurd (not-suc-le-zero g)
 
--- a block from p to q with a run of n bytes
-module _ (k : Class) (s : List ℕ) (p q n : ℕ) (e : n ≡ run_of k (take (q - p) (drop p s))) (h : q ≤ length s) (g : p ≤ q) where
-  inside : q - p ≤ length (drop p s)
-  inside = rw length-drop (omega arith)
+-- block i of what follows a place of s, with a run of n bytes: it begins at p
+module _ (k : Class) (s : List ℕ) (at i p n : ℕ) (d : List ℕ) {rest : List ℕ} {blocks : List (List ℕ)} (bytes : rest ≡ drop at s)
+    (front : blocks ≡ first_chunks 16 (length rest / 16) rest) (more : i < length blocks) (place : p ≡ at + i * 16)
+    (e : n ≡ run_of k (get_or blocks i d)) where
+  inside : 16 ≤ length (drop p s)
+  inside =
+      let count : length blocks ≡ length rest / 16 = ap length front ∙ (chunks_parts 16 rest).count in
+      let long : length rest ≡ length s - at = ap length bytes ∙ length-drop at s in
+      rw length-drop (omega (arith, count, long, more, place))
 
-  pub block_short : n < q - p → p + n ≡ p + run_of k (drop p s)
-  block_short l = ap (λ (x : ℕ). p + x) (e ∙ run_front k (q - p) (drop p s) (rw e at l) inside)
+  run : n ≡ run_of k (take 16 (drop p s))
+  unfolding part
+  run =
+      let there : get_or (first_chunks 16 (length rest / 16) rest) i d ≡ take 16 (drop (i * 16) rest) = (chunks_parts 16 rest).each i d (rw front at more) in
+      let place_of : drop (i * 16) rest ≡ drop p s = rw (bytes, drop-drop (i * 16) at s, place) refl in
+      e ∙ rw (front, there, place_of) refl
 
-  pub block_whole : q - p ≤ n → p + run_of k (drop p s) ≡ q + run_of k (drop q s)
+  pub block_short : n < 16 → p + n ≡ p + run_of k (drop p s)
+  block_short l = ap (λ (x : ℕ). p + x) (run ∙ run_front k 16 (drop p s) (rw run at l) inside)
+
+  pub block_whole : 16 ≤ n → p + run_of k (drop p s) ≡ p + 16 + run_of k (drop (p + 16) s)
   block_whole l =
-      let next : p + (q - p) ≡ q = omega arith in
-      let over : run_of k (drop p s) ≡ q - p + run_of k (drop (p + (q - p)) s)
-      = run_over k (q - p) (drop p s) (rw e at l) inside ∙ ap (λ (x : List ℕ). q - p + run_of k x) (drop-drop (q - p) p s) in
-      let behind : run_of k (drop p s) ≡ q - p + run_of k (drop q s) = rw next at over in
-      omega arith
+      let over : run_of k (drop p s) ≡ 16 + run_of k (drop 16 (drop p s)) = run_over k 16 (drop p s) (rw run at l) inside in
+      let behind : drop 16 (drop p s) ≡ drop (p + 16) s = drop-drop 16 p s in
+      let whole : run_of k (drop p s) ≡ 16 + run_of k (drop (p + 16) s) = over ∙ rw behind refl in
+      omega (arith, whole)

@@ -295,3 +295,6 @@ module _ (s : List ℕ) (first n p : ℕ) where
           let lost : begins crlf (drop (run_of RecordByte l) l) ≡ false = rw (drop-drop (run_of RecordByte l) p s) off in
           let lines : records_of (between s p (apostrophe_from s p)) ≡ broken = ap records_of (body_bytes s p) ∙ first_line l begun ∙ rw lost refl in
           rw lines (either (leb (length s) (apostrophe_from s p)))
+
+-- what the count of a body's lines is proved by
+pub ruleset counting = (line_placed, count_start, count_end, count_apostrophe, count_more, count_off)

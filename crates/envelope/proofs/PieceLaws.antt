@@ -4,34 +4,43 @@ use Prim.Native.Nat.{ℕ, suc, ◌+◌, ◌-◌, ◌<◌, ◌≤◌, zero-le, su
 use mathlib.Core.Bool.{Bool, true, false, ◌&&◌, cond, false≢true}
 use mathlib.Core.List.{List, [], ◌∷◌}
 use mathlib.Core.Path.{◌≡◌, refl, ap, sym, ◌∙◌}
-use native.Mathlib.Numerals.{add-one}
+use native.Mathlib.Numerals.{one-add}
 use native.Mathlib.Omega.{arith}
 use borrow.Author.Tests.{le-leb, leb-true}
 use lib.Dec.{eqb, leb}
-use lib.ListN.{length, take, drop, get_or, length-drop, drop_of_length-le}
+use Rattle.std.proofs.lemmas.Bool.Decides.{nat_tests}
+use lib.ListN.{length, take, drop, get_or, length-drop}
 use lib.Seq.{drop-cons, length-take-le}
 use Rattle.frame.proofs.BoolLaws.{and_left, and_right}
 use Rattle.text.specs.declared.Class.{Class}
 use Rattle.text.specs.Class.{belongs_to}
 use Rattle.text.specs.Bytes.{all}
 use Rattle.std.specs.Prelude.{Option, Some, None}
+use Rattle.std.specs.List.{prefix_len, take_while, starts_with}
 use Rattle.std.proofs.lemmas.Option.{none-some, cond_some}
 use Rattle.envelope.specs.Pieces.{run_of, begins, text_end, part_end, part_then, on}
 
--- a byte of the class lengthens the run by one
-pub run_on : (k : Class) (s : List ℕ) (p : ℕ) → p < length s → belongs_to k (get_or s p 0) ≡ true → p + run_of k (drop p s) ≡ p + 1 + run_of k (drop (p + 1) s)
+-- a run, and a text at the front, in the words of the library
+pub counted_run : (k : Class) (l : List ℕ) → length (take_while (belongs_to k) l) ≡ run_of k l
 unfolding run_of
-run_on k s p h e = rw (drop-cons s p 0, e, add-one) (omega arith)
+counted_run k [] = refl
+counted_run k (b ∷ l) = go (belongs_to k b) (counted_run k l)
+  where
+    go : (x : Bool) → length (take (prefix_len (belongs_to k) l) l) ≡ run_of k l
+        → length (take (cond x (1 + prefix_len (belongs_to k) l) 0) (b ∷ l)) ≡ cond x (suc (run_of k l)) 0
+    go true e = rw (one-add (prefix_len (belongs_to k) l)) (ap suc e)
+    go false e = refl
 
--- any other byte ends it
+pub begins_there : (t l : List ℕ) → starts_with eqb l t ≡ begins t l
+unfolding begins
+begins_there [] l = refl
+begins_there (a ∷ t) [] = refl
+begins_there (a ∷ t) (b ∷ l) = let either : eqb a b ≡ eqb b a = grind (arith, nat_tests) in rw (begins_there t l, either)
+
+-- a byte that is not of the class ends a run
 pub run_stop : (k : Class) (s : List ℕ) (p : ℕ) → p < length s → belongs_to k (get_or s p 0) ≡ false → p ≡ p + run_of k (drop p s)
 unfolding run_of
 run_stop k s p h e = rw (drop-cons s p 0, e) (omega arith)
-
--- and so does the end
-pub run_end : (k : Class) (s : List ℕ) (p : ℕ) → length s ≤ p → p ≡ p + run_of k (drop p s)
-unfolding run_of
-run_end k s p h = rw drop_of_length-le (omega arith)
 
 run_step : (x : Bool) (n m : ℕ) → n ≤ m → cond x (suc n) 0 ≤ suc m
 run_step true n m h = suc-le-suc h
@@ -57,20 +66,6 @@ run_all k (b ∷ l) = go (belongs_to k b) refl (run_all k l)
 pub run_form : (k : Class) (lo hi n : ℕ) (l : List ℕ) → n ≡ run_of k l → lo ≤ run_of k l → run_of k l ≤ hi
     → (leb lo (length (take n l)) && leb (length (take n l)) hi && all (belongs_to k) (take n l)) ≡ true
 run_form k lo hi n l e a b = rw (e, length-take-le (run_of k l) l (run_within k l), le-leb _ _ a, le-leb _ _ b) (run_all k l)
-
--- a text, byte by byte
-pub text_on : (t s : List ℕ) (i p : ℕ) → i < length t → p < length s
-    → begins (drop i t) (drop p s) ≡ eqb (get_or s p 0) (get_or t i 0) && begins (drop (i + 1) t) (drop (p + 1) s)
-unfolding begins
-text_on t s i p hi hp = rw (drop-cons t i 0, drop-cons s p 0, add-one i, add-one p)
-
-pub text_short : (t s : List ℕ) (i p : ℕ) → i < length t → length s ≤ p → begins (drop i t) (drop p s) ≡ false
-unfolding begins
-text_short t s i p hi hp = rw (drop_of_length-le s hp, drop-cons t i 0)
-
-pub text_whole : (t s : List ℕ) (i : ℕ) → length t ≤ i → begins (drop i t) s ≡ true
-unfolding begins
-text_whole t s i h = rw drop_of_length-le
 
 -- a chain that comes to v found what it began with
 pub found : {A P : Type 0} (x : Option P) (none v : A) (f : P → A) → (none ≡ v → ⊥) → on x none f ≡ v → (p : P) × ((x ≡ Some p) × (f p ≡ v))

@@ -58,48 +58,35 @@ pub struct Layout {
 fn run_end(s: &[u8], at: usize, k: Class) -> usize
     ensures { result ≡ at + run_of k (drop at s.now) }
 {
-    let mut p = at;
-    while p < s.len() {
-        if !text::belongs(k, s[p]) {
-            return p;
-        }
-        p += 1;
-    }
-    p
+    at + text::rest(s, at)
+        .iter()
+        .take_while(|b| text::belongs(k, **b))
+        .count()
 }
 
 // Where a fixed text at a place ends, if it stands there.
+#[tactic(auto, using(crate::proofs::PieceLaws::begins_there), unfolding(crate::specs::Pieces::text_end))]
 fn text_end(s: &[u8], at: usize, t: &[u8]) -> Option<usize>
     ensures { result ≡ text_end s.now at t.now }
 {
-    let mut p = at;
-    let mut i = 0;
-    while i < t.len() {
-        if s.len() <= p {
-            return None;
-        }
-        if s[p] != t[i] {
-            return None;
-        }
-        p += 1;
-        i += 1;
+    if text::rest(s, at).starts_with(t) {
+        Some(at + t.len())
+    } else {
+        None
     }
-    Some(p)
 }
 
 // Where a part of lo to hi bytes of a class at a place ends.
+#[tactic(auto, unfolding(crate::specs::Pieces::part_end))]
 fn part_end(s: &[u8], at: usize, k: Class, lo: usize, hi: usize) -> Option<usize>
     ensures { result ≡ part_end s.now at k lo hi }
 {
-    let e = run_end(s, at, k);
-    let n = e - at;
-    if n < lo {
-        return None;
+    let end = run_end(s, at, k);
+    if (lo..=hi).contains(&(end - at)) {
+        Some(end)
+    } else {
+        None
     }
-    if hi < n {
-        return None;
-    }
-    Some(e)
 }
 
 // A part, and the fixed text that ends it.
@@ -111,6 +98,7 @@ fn part_then(s: &[u8], at: usize, k: Class, lo: usize, hi: usize, t: &[u8]) -> O
 }
 
 // The end of the run of record bytes in w: its length where every byte is above the apostrophe, as in most blocks of a record.
+#[tactic(auto, using(crate::proofs::BlockLaws::above_run))]
 fn block_end(w: &[u8]) -> usize
     ensures { result ≡ run_of RecordByte w.now }
 {
@@ -124,32 +112,31 @@ fn block_end(w: &[u8]) -> usize
 fn blocks_end(s: &[u8], at: usize) -> usize
     ensures { result ≡ at + run_of RecordByte (drop at s.now) }
 {
-    if s.len() < at {
-        return at;
-    }
-    let mut p = at;
-    while BLOCK_SIZE <= s.len() - p {
-        let next = p + BLOCK_SIZE;
-        let n = block_end(&s[p..next]);
+    let (blocks, _) = text::rest(s, at).as_chunks::<BLOCK_SIZE>();
+    let mut end = at;
+    for w in blocks {
+        let n = block_end(w);
         if n < BLOCK_SIZE {
-            return p + n;
+            return end + n;
         }
-        p = next;
+        end += BLOCK_SIZE;
     }
-    run_end(s, p, Class::RecordByte)
+    run_end(s, end, Class::RecordByte)
 }
 
 // The end of the record at a place; an empty one, whose CR stands there, is not worth a block.
+#[tactic(auto, using(crate::proofs::BlockLaws::record_empty))]
 pub fn record_end(s: &[u8], at: usize) -> usize
     ensures { result ≡ at + run_of RecordByte (drop at s.now) }
 {
-    if at < s.len() && s[at] == b'\r' {
+    if s.get(at) == Some(&b'\r') {
         return at;
     }
     blocks_end(s, at)
 }
 
 // The end of the line at a place: a record, then CR LF.
+#[tactic(auto, unfolding(crate::specs::Body::line_end))]
 pub fn line_end(s: &[u8], at: usize) -> Option<usize>
     ensures { result ≡ line_end s.now at }
 {
@@ -158,11 +145,13 @@ pub fn line_end(s: &[u8], at: usize) -> Option<usize>
 }
 
 // The records from a place up to the first apostrophe, counted in one pass.
+#[tactic(auto, using(crate::proofs::LineLaws::counting))]
 fn count_lines(s: &[u8], first: usize) -> Option<Span>
     ensures { result ≡ lines_at s.now first }
 {
     let mut p = first;
     let mut n: usize = 0;
+    // As it is: the place goes from line to line, each as long as it is, and no iterator of the library does that.
     while p < s.len() {
         if s[p] == b'\'' {
             return Some(Span {
@@ -216,10 +205,7 @@ fn read_tail(s: &[u8], at: usize) -> Option<usize>
 {
     let word = text_end(s, at, b"'UNT+3+BWA'UNZ+1+")?;
     let end = part_then(s, word, Class::WordByte, 1, 14, b"'")?;
-    if end != s.len() {
-        return None;
-    }
-    Some(word)
+    if end == s.len() { Some(word) } else { None }
 }
 
 // A file whose head was read: its body, its tail, its words and its count of records.

@@ -6,7 +6,7 @@ use Rattle.envelope.proofs.LineLaws.{lines_from}
 use Rattle.envelope.proofs.count_lines.Given as goal
 
 abbrev pub invariant-loop-p : goal.invariant-loop-p
-invariant-loop-p l = (l.n ≤ l.p) × (lines_at l.s l.first ≡ lines_from l.s l.first l.n l.p)
+invariant-loop-p l = record { few : l.n ≤ l.p; counted : lines_at l.s l.first ≡ lines_from l.s l.first l.n l.p }
 
 abbrev pub decreases-loop-p : goal.decreases-loop-p
 decreases-loop-p l = length l.s - l.p
