@@ -209,14 +209,14 @@ fn read_tail(s: &[u8], at: usize) -> Option<usize>
 }
 
 // A file whose head was read: its body, its tail, its words and its count of records.
-#[tactic(auto, unfolding(crate::specs::Envelope::body_stage))]
+#[tactic(auto, using(text::proofs::SameLaws::eq_same), unfolding(crate::specs::Envelope::body_stage))]
 fn open_body(s: &[u8], h: Parts) -> Result<Layout, Refusal>
     requires { Ordered s.now h }
     ensures { opened_as result ≡ body_stage s.now h }
 {
     let b = read_body(s, h.end).ok_or(Refusal::Body)?;
     let last = read_tail(s, b.end).ok_or(Refusal::Tail)?;
-    if !text::same(&s[h.word..h.word_end], &s[last..s.len() - 1]) {
+    if s[h.word..h.word_end] != s[last..s.len() - 1] {
         return Err(Refusal::ControlWord);
     }
     if RECORD_COUNT_LIMIT < b.records {
@@ -234,7 +234,7 @@ fn open_body(s: &[u8], h: Parts) -> Result<Layout, Refusal>
 }
 
 // A report file of a message class.
-#[tactic(auto, unfolding(crate::specs::Envelope::envelope_of))]
+#[tactic(auto, using(text::proofs::SameLaws::eq_same), unfolding(crate::specs::Envelope::envelope_of))]
 pub fn open(s: &[u8], class: &[u8]) -> Result<Layout, Refusal>
     ensures { opened_as result ≡ envelope_of class.now s.now }
 {
@@ -244,7 +244,7 @@ pub fn open(s: &[u8], class: &[u8]) -> Result<Layout, Refusal>
     {
         return Err(Refusal::Moment);
     }
-    if !text::same(&s[h.receiver..h.date - 1], b"ATBWA") {
+    if &s[h.receiver..h.date - 1] != b"ATBWA".as_slice() {
         return Err(Refusal::Receiver);
     }
     open_body(s, h)
