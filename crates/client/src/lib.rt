@@ -5,7 +5,8 @@ ghost use Rattle.std.specs.Prelude.{◌≡◌};
 ghost use Rattle.client.specs.Client.{lacks_form, same_party, client_tests};
 
 // Whether a field lacks the form that its kind asks.
-fn lacks_form<'a>(kind: &'a [u8], f: &'a [u8]) -> bool
+#[tactic(auto, unfolding(crate::specs::Client::lacks_form))]
+fn lacks_form(kind: &[u8], f: &[u8]) -> bool
     ensures { result ≡ lacks_form kind.now f.now }
 {
     let k = fields::letter_of(kind);
@@ -15,7 +16,8 @@ fn lacks_form<'a>(kind: &'a [u8], f: &'a [u8]) -> bool
 }
 
 // Whether two identifications of one kind are the same.
-fn same_party<'a>(kind: &'a [u8], f: &'a [u8], g: &'a [u8]) -> bool
+#[tactic(auto, unfolding(crate::specs::Client::same_party))]
+fn same_party(kind: &[u8], f: &[u8], g: &[u8]) -> bool
     ensures { result ≡ same_party kind.now f.now g.now }
 {
     if fields::letter_of(kind) == b'S' {
@@ -26,15 +28,16 @@ fn same_party<'a>(kind: &'a [u8], f: &'a [u8], g: &'a [u8]) -> bool
 }
 
 // Whether each of places 7 to 17 fails.
-pub fn judge<'a>(f3: &'a [u8], f4: &'a [u8], f5: &'a [u8], f6: &'a [u8]) -> [bool; 11]
+#[tactic(auto, unfolding(crate::specs::Client::client_tests))]
+pub fn judge(f3: &[u8], f4: &[u8], f5: &[u8], f6: &[u8]) -> [bool; 11]
     ensures { result ≡ client_tests f3.now f4.now f5.now f6.now }
 {
     let k3 = fields::letter_of(f3);
     let k5 = fields::letter_of(f5);
-    let blank3 = f3.len() == 0;
-    let blank4 = f4.len() == 0;
-    let blank5 = f5.len() == 0;
-    let blank6 = f6.len() == 0;
+    let blank3 = f3.is_empty();
+    let blank4 = f4.is_empty();
+    let blank5 = f5.is_empty();
+    let blank6 = f6.is_empty();
     [
         blank3, // 7 0030
         !blank3 & !((k3 == b'B') | (k3 == b'S') | (k3 == b'N') | (k3 == b'I')), // 8 0031

@@ -1,19 +1,13 @@
 -- Places 31 to 41 of document 01: currency, quantity and price. Whether F21 and F24 are money is given with them.
 -- Assumes nothing.
-use Rattle.std.specs.Prelude.{ℕ, Bool, true, false, ◌&&◌, ◌||◌, not, List, [], ◌∷◌}
-use Rattle.decimal.specs.declared.Decimal.{Decimal}
-use Rattle.decimal.specs.declared.Decimal.TheVariants.{Value, Malformed}
+use Rattle.std.specs.Prelude.{ℕ, Bool, ◌&&◌, ◌||◌, not, List, [], ◌∷◌, is_some}
 use Rattle.decimal.specs.Decimal.{decimal_of, tells_zero}
 use Rattle.tables.specs.Currencies.{is_special}
 use Rattle.fields.specs.Forms.{blank, filled, one_of}
 
 -- the field is Nm,n
-abbrev pub is_value : Decimal → Bool
-is_value (Value a) = true
-is_value Malformed = false
-
 abbrev pub is_decimal : ℕ → ℕ → List ℕ → Bool
-is_decimal m n s = is_value (decimal_of m n s)
+is_decimal m n s = is_some (decimal_of m n s)
 
 -- the field is Nm,n, and its value isn't zero (document 02, Item 4)
 abbrev pub is_positive : ℕ → ℕ → List ℕ → Bool
