@@ -11,26 +11,12 @@ use lib.ListN.{get_or}
 use Rattle.frame.proofs.BoolLaws.{and_false, and_true}
 use Rattle.text.specs.Bytes.{same}
 use Rattle.fields.specs.Forms.{letter, starts}
-use Rattle.underlying.specs.declared.Theme.{Theme}
 use Rattle.underlying.specs.declared.Theme.TheVariants.{Basket, Commodity, Metal, NonMetal, Interest, Currency}
 use Rattle.underlying.specs.declared.Underlying.{Underlying}
 use Rattle.underlying.specs.declared.Underlying.TheVariants.{Missing, Isin, Eurex, Otob, Foreign, Themed, Unlisted, Unknown}
 use Rattle.underlying.specs.declared.Derivative.{Derivative}
 use Rattle.underlying.specs.Underlying.{asks_underlying, is_missing, is_theme, present_tests, underlying_tests}
 use Rattle.underlying.specs.Cases.{theme_word, first_theme, theme_of, present_of, underlying_of, first_letter, is_lacking, tests_beside, tests_of}
-
-module _ {found : Bool} (word : List ℕ) (theme : Theme) (themes : List Theme) (e : found ≡ same word (theme_word theme)) where
-  pub theme_found : found ≡ true → Themed theme ≡ first_theme (theme ∷ themes) word
-  unfolding first_theme
-  theme_found h = rw (← e, h) refl
-
-  pub theme_passed : found ≡ false → first_theme themes word ≡ first_theme (theme ∷ themes) word
-  unfolding first_theme
-  theme_passed h = rw (← e, h) refl
-
-pub theme_none : (word : List ℕ) → Unlisted ≡ first_theme [] word
-unfolding first_theme
-theme_none word = refl
 
 -- T with a text: place 55 fails where it is none of the six words
 theme_tests : (naming : ℕ) (word : List ℕ)

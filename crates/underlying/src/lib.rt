@@ -37,6 +37,36 @@ pub enum Underlying {
     Unknown,
 }
 
+impl Underlying {
+    // The letter that field 33 begins with; 0 where it is missing, a question mark for any other letter.
+    fn first_letter(self) -> u8
+        ensures { result ≡ first_letter self }
+    {
+        match self {
+            Underlying::Missing => 0,
+            Underlying::Isin(_) => b'S',
+            Underlying::Eurex(_) => b'E',
+            Underlying::Otob(_) => b'O',
+            Underlying::Foreign(_) => b'A',
+            Underlying::Themed(_) | Underlying::Unlisted => b'T',
+            Underlying::Unknown => b'?',
+        }
+    }
+
+    // Whether what follows the letter is not what the letter asks for: a valid ISIN, a number, one of the six words.
+    fn is_lacking(self) -> bool
+        ensures { result ≡ is_lacking self }
+    {
+        match self {
+            Underlying::Isin(valid) => !valid,
+            Underlying::Eurex(alone) | Underlying::Otob(alone) | Underlying::Foreign(alone) =>
+                alone,
+            Underlying::Unlisted => true,
+            Underlying::Missing | Underlying::Themed(_) | Underlying::Unknown => false,
+        }
+    }
+}
+
 // What places 52 to 58 ask of a derivative's record.
 #[derive(Clone, Copy)]
 pub struct Derivative {
@@ -45,7 +75,29 @@ pub struct Derivative {
     pub underlying: Underlying,
 }
 
+impl Derivative {
+    // Whether each of places 52 to 58 fails.
+    #[tactic(auto, unfolding(crate::specs::Cases::tests_of), using(crate::proofs::UnderlyingLaws::letter_tests))]
+    fn tests(self) -> [bool; 7]
+        ensures { result ≡ tests_of self }
+    {
+        let naming = self.naming;
+        let k = self.underlying.first_letter();
+        let lacking = self.underlying.is_lacking();
+        [
+            k == 0, // 52 0331
+            (k == b'S') & lacking, // 53 0332
+            (naming == b'E') & ((k == b'O') | (k == b'A') | (k == b'T')), // 54 0335
+            (k == b'T') & lacking, // 55 0336
+            k == b'?', // 56 0337
+            (naming == b'O') & ((k == b'E') | (k == b'A') | (k == b'T')), // 57 0338
+            ((k == b'E') | (k == b'O') | (k == b'A')) & lacking, // 58 0339
+        ]
+    }
+}
+
 // Whether field 21 asks for an underlying.
+#[tactic(auto, unfolding(crate::specs::Underlying::asks_underlying))]
 fn asks_underlying(f21: &[u8]) -> bool
     ensures { result ≡ asks_underlying f21.now }
 {
@@ -53,36 +105,34 @@ fn asks_underlying(f21: &[u8]) -> bool
 }
 
 // What follows T: one of the six words, or an unlisted text.
+#[tactic(auto, unfolding(crate::specs::Cases::first_theme))]
 fn theme_of(word: &[u8]) -> Underlying
     ensures { result ≡ theme_of word.now }
 {
     if text::same(word, b"BASKET") {
-        return Underlying::Themed(Theme::Basket);
+        Underlying::Themed(Theme::Basket)
+    } else if text::same(word, b"COMMODITY") {
+        Underlying::Themed(Theme::Commodity)
+    } else if text::same(word, b"METAL") {
+        Underlying::Themed(Theme::Metal)
+    } else if text::same(word, b"NON-METAL") {
+        Underlying::Themed(Theme::NonMetal)
+    } else if text::same(word, b"INTEREST") {
+        Underlying::Themed(Theme::Interest)
+    } else if text::same(word, b"CURRENCY") {
+        Underlying::Themed(Theme::Currency)
+    } else {
+        Underlying::Unlisted
     }
-    if text::same(word, b"COMMODITY") {
-        return Underlying::Themed(Theme::Commodity);
-    }
-    if text::same(word, b"METAL") {
-        return Underlying::Themed(Theme::Metal);
-    }
-    if text::same(word, b"NON-METAL") {
-        return Underlying::Themed(Theme::NonMetal);
-    }
-    if text::same(word, b"INTEREST") {
-        return Underlying::Themed(Theme::Interest);
-    }
-    if text::same(word, b"CURRENCY") {
-        return Underlying::Themed(Theme::Currency);
-    }
-    Underlying::Unlisted
 }
 
 // Field 33 by its first letter, where it isn't missing.
+#[tactic(auto, unfolding(crate::specs::Cases::present_of))]
 fn present_of(f33: &[u8]) -> Underlying
     ensures { result ≡ present_of f33.now }
 {
     let rest = text::rest(f33, 1);
-    let alone = rest.len() == 0;
+    let alone = rest.is_empty();
     match fields::first_byte(f33) {
         b'S' => Underlying::Isin(identifier::is_isin(rest)),
         b'E' => Underlying::Eurex(alone),
@@ -94,75 +144,27 @@ fn present_of(f33: &[u8]) -> Underlying
 }
 
 // Field 33 by its first letter; missing where it is blank or over 41 bytes.
+#[tactic(auto, unfolding(crate::specs::Cases::underlying_of, crate::specs::Underlying::is_missing))]
 pub fn underlying_of(f33: &[u8]) -> Underlying
     ensures { result ≡ underlying_of f33.now }
 {
-    if (f33.len() == 0) | (41 < f33.len()) {
+    if f33.is_empty() | (41 < f33.len()) {
         return Underlying::Missing;
     }
     present_of(f33)
 }
 
-// The letter that field 33 begins with; 0 where it is missing, a question mark for any other letter.
-fn first_letter(u: Underlying) -> u8
-    ensures { result ≡ first_letter u }
-{
-    match u {
-        Underlying::Missing => 0,
-        Underlying::Isin(_) => b'S',
-        Underlying::Eurex(_) => b'E',
-        Underlying::Otob(_) => b'O',
-        Underlying::Foreign(_) => b'A',
-        Underlying::Themed(_) => b'T',
-        Underlying::Unlisted => b'T',
-        Underlying::Unknown => b'?',
-    }
-}
-
-// Whether what follows the letter is not what the letter asks for: a valid ISIN, a number, one of the six words.
-fn is_lacking(u: Underlying) -> bool
-    ensures { result ≡ is_lacking u }
-{
-    match u {
-        Underlying::Missing => false,
-        Underlying::Isin(valid) => !valid,
-        Underlying::Eurex(alone) => alone,
-        Underlying::Otob(alone) => alone,
-        Underlying::Foreign(alone) => alone,
-        Underlying::Themed(_) => false,
-        Underlying::Unlisted => true,
-        Underlying::Unknown => false,
-    }
-}
-
-// Whether each of places 52 to 58 fails.
-fn tests_of(d: Derivative) -> [bool; 7]
-    ensures { result ≡ tests_of d }
-{
-    let naming = d.naming;
-    let underlying = d.underlying;
-    let k = first_letter(underlying);
-    let lacking = is_lacking(underlying);
-    [
-        k == 0, // 52 0331
-        (k == b'S') & lacking, // 53 0332
-        (naming == b'E') & ((k == b'O') | (k == b'A') | (k == b'T')), // 54 0335
-        (k == b'T') & lacking, // 55 0336
-        k == b'?', // 56 0337
-        (naming == b'O') & ((k == b'E') | (k == b'A') | (k == b'T')), // 57 0338
-        ((k == b'E') | (k == b'O') | (k == b'A')) & lacking, // 58 0339
-    ]
-}
-
 // Whether each of places 52 to 58 fails; none does where field 21 asks for no underlying.
-pub fn judge<'a>(f19: &'a [u8], f21: &'a [u8], f33: &'a [u8]) -> [bool; 7]
+#[tactic(auto, using(crate::proofs::UnderlyingLaws::asked_tests, crate::proofs::UnderlyingLaws::unasked_tests))]
+pub fn judge(f19: &[u8], f21: &[u8], f33: &[u8]) -> [bool; 7]
     ensures { result ≡ underlying_tests f19.now f21.now f33.now }
 {
     if asks_underlying(f21) {
-        tests_of(Derivative {
+        Derivative {
             naming: fields::letter_of(f19),
             underlying: underlying_of(f33),
-        })
+        }
+        .tests()
     } else {
         [false; 7]
     }
