@@ -22,11 +22,11 @@ use Rattle.ledger.proofs.SoundLaws.{live_row_live}
 use Rattle.client.specs.Client.{client_tests}
 use Rattle.trade.specs.Trade.{trade_tests}
 use Rattle.trade.specs.Instrument.{instrument_tests}
-use Rattle.decimal.specs.declared.Decimal.{Decimal}
-use Rattle.decimal.specs.declared.Decimal.TheVariants.{Value, Malformed}
+use Rattle.std.specs.Prelude.{Option, Some, None, is_some}
+use Rattle.decimal.specs.declared.Amount.{Amount}
 use Rattle.decimal.specs.Decimal.{decimal_of, value_of, tells_zero}
 use Rattle.decimal.proofs.ZeroLaws.{above_zero}
-use Rattle.terms.specs.Terms.{is_value, is_positive, terms_tests}
+use Rattle.terms.specs.Terms.{is_positive, terms_tests}
 use Rattle.terms.specs.Capacity.{capacity_tests}
 use Rattle.terms.specs.Derivative.{derivative_tests}
 use Rattle.terms.specs.Marks.{mark_tests}
@@ -43,9 +43,9 @@ behind ts us n k e = subst (λ (m : ℕ). get_or (ts ++ us) (m + k) false ≡ ge
 filled_positive : (s : List ℕ) → blank s ≡ false → filled s && not (is_positive 15 4 s) ≡ false → 0 < value_of (decimal_of 15 4 s)
 filled_positive s p q = go (decimal_of 15 4 s) refl (rw p at q)
   where
-    go : (d : Decimal) → decimal_of 15 4 s ≡ d → not (is_value d && not (tells_zero d)) ≡ false → 0 < value_of d
-    go (Value a) e h = above_zero 15 4 s e (not-true _ (not-false _ h))
-    go Malformed e h = absurd (false≢true (sym h))
+    go : (d : Option Amount) → decimal_of 15 4 s ≡ d → not (is_some d && not (tells_zero d)) ≡ false → 0 < value_of d
+    go (Some a) e h = above_zero 15 4 s e (not-true _ (not-false _ h))
+    go None e h = absurd (false≢true (sym h))
 
 module _ (reporters : List ℕ) (money : List ℕ → Bool) (row : ℕ) (F : ℕ → List ℕ) (passed : is_empty (record_failures reporters money row F) ≡ true) where
   -- none of places 7 to 60 fails

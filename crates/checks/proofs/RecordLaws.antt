@@ -40,7 +40,7 @@ next_group : (ts us : List Bool) (s : Failures) (k n : ℕ) → length ts ≡ n 
 next_group ts us s k n e = subst (λ (m : ℕ). added_from (added_from s k ts) (k + m) us ≡ added_from s k (ts ++ us)) e (added_append ts us s k)
 
 module _ (reporters : List ℕ) (money : List ℕ → Bool) (row : ℕ) (F : ℕ → List ℕ) where
-  groups_added :
+  pub groups_added :
       added_from (added_from (added_from (added_from (added_from (added_from (added_from (added_from no_failure
       7 (client_group F)) 18 (trade_group F)) 25 (instrument_group F)) 31 (terms_group (money (F 21)) (money (F 24)) F)) 42 (capacity_group reporters row F))
       47 (derivative_group (money (F 21)) F)) 52 (underlying_group F)) 59 (marks_group F)
@@ -55,12 +55,3 @@ module _ (reporters : List ℕ) (money : List ℕ → Bool) (row : ℕ) (F : ℕ
       ∙ next_group (instrument_group F) _ _ 25 6 refl
       ∙ next_group (trade_group F) _ _ 18 7 refl
       ∙ next_group (client_group F) _ no_failure 7 11 refl
-
-  -- the sets that the code makes one from the other, with what it has found of F21 and F24
-  pub record_added : {money21 money24 : Bool} {none to17 to24 to30 to41 to46 to51 to58 to60 : Failures}
-      → money21 ≡ money (F 21) → money24 ≡ money (F 24) → none ≡ no_failure
-      → to17 ≡ added_from none 7 (client_group F) → to24 ≡ added_from to17 18 (trade_group F) → to30 ≡ added_from to24 25 (instrument_group F)
-      → to41 ≡ added_from to30 31 (terms_group money21 money24 F) → to46 ≡ added_from to41 42 (capacity_group reporters row F)
-      → to51 ≡ added_from to46 47 (derivative_group money21 F) → to58 ≡ added_from to51 52 (underlying_group F) → to60 ≡ added_from to58 59 (marks_group F)
-      → to60 ≡ record_failures reporters money row F
-  record_added m n z a b c d e f g h = rw (h, g, f, e, d) (rw (c, b, a, z, m, n) groups_added)

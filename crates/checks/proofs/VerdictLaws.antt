@@ -1,35 +1,17 @@
 -- What became of a record, by the place of its first failure; and which of its failures are before the booking.
 -- Assumes nothing.
-use Prim.Native.Nat.{ℕ, ◌^◌, ◌≤◌, ◌<◌}
+use Prim.Native.Nat.{ℕ, ◌^◌, ◌<◌}
 use native.Mathlib.Omega.{arith}
 use mathlib.Core.Bool.{Bool, true, false, cond}
 use mathlib.Core.List.{List}
 use mathlib.Core.Path.{◌≡◌, refl, sym, ◌∙◌}
-use borrow.Author.Tests.{lt-ltb, le-ltb}
 use Rattle.failures.specs.declared.Failures.{Failures}
-use Rattle.failures.specs.Failures.{is_empty, before_booking, first_place}
+use Rattle.failures.specs.Failures.{is_empty, before_booking}
 use Rattle.failures.proofs.FailureLaws.{empty_none, set_small, before_same, before_none, before_small}
 use Rattle.checks.specs.Record.{record_tests, record_failures}
 use Rattle.checks.specs.Booking.{booking_tests, booking_of}
-use Rattle.checks.specs.Verdict.{failures_on, status_at, status_of}
+use Rattle.checks.specs.Verdict.{failures_on}
 use Rattle.checks.proofs.RecordLaws.{record_length}
-
-module _ (failed : Failures) {place : ℕ} (e : place ≡ first_place failed) where
-  pub sender_status : place < 7 → 1 ≡ status_of failed
-  unfolding status_at
-  sender_status a = rw (← e, lt-ltb place 7 a) refl
-
-  pub record_status : 7 ≤ place → place < 61 → 2 ≡ status_of failed
-  unfolding status_at
-  record_status a b = rw (← e, le-ltb place 7 a, lt-ltb place 61 b) refl
-
-  pub booking_status : 7 ≤ place → 61 ≤ place → place < 64 → 3 ≡ status_of failed
-  unfolding status_at
-  booking_status a b d = rw (← e, le-ltb place 7 a, le-ltb place 61 b, lt-ltb place 64 d) refl
-
-  pub booked_status : 7 ≤ place → 61 ≤ place → 64 ≤ place → 0 ≡ status_of failed
-  unfolding status_at
-  booked_status a b d = rw (← e, le-ltb place 7 a, le-ltb place 61 b, le-ltb place 64 d) refl
 
 -- the failures of places 7 to 60 are all before the booking
 pub record_before : (reporters : List ℕ) (money : List ℕ → Bool) (row : ℕ) (F : ℕ → List ℕ)

@@ -81,13 +81,14 @@ fn named_row(c: &[u8], f16: &[u8]) -> usize
     ensures { result ≡ named_row c.now f16.now }
 {
     if f16.is_empty() {
-        return ROW_COUNT;
+        ROW_COUNT
+    } else {
+        ledger::live_row(c, f16)
     }
-    ledger::live_row(c, f16)
 }
 
 // What places 61 to 63 find in a compartment. It is lent that compartment only, to read.
-#[tactic(auto, unfolding(crate::specs::Booking::booking_of), unfolding(crate::specs::Booking::booking_tests))]
+#[tactic(auto, unfolding(crate::specs::Booking::booking_of, crate::specs::Booking::booking_tests))]
 pub fn judge_booking(c: &[u8], f16: &[u8], f39: &[u8]) -> Booking
     ensures { result ≡ booking_of c.now f16.now f39.now }
 {
@@ -106,18 +107,14 @@ pub fn judge_booking(c: &[u8], f16: &[u8], f39: &[u8]) -> Booking
 }
 
 // What became of a record, by its first failure: 0 booked, 1 places 0 to 6, 2 places 7 to 60, 3 places 61 to 63.
+#[tactic(auto, unfolding(crate::specs::Verdict::status_at))]
 pub fn status(failed: Failures) -> u8
     ensures { result ≡ status_of failed }
 {
-    let place = failed.first();
-    if place < 7 {
-        return 1;
+    match failed.first() {
+        0..=6 => 1,
+        7..=60 => 2,
+        61..=63 => 3,
+        _ => 0,
     }
-    if place < 61 {
-        return 2;
-    }
-    if place < 64 {
-        return 3;
-    }
-    0
 }
