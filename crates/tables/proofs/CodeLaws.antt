@@ -5,12 +5,12 @@ use native.Mathlib.Omega.{arith}
 use mathlib.Core.Bool.{Bool, true, false, ◌&&◌, ◌||◌, not, cond, false≢true}
 use mathlib.Core.List.{List, [], ◌∷◌}
 use mathlib.Core.Path.{◌≡◌, refl, ap, sym, ◌∙◌}
-use borrow.Author.Tests.{lt-ltb, leb-true, ne_eqb}
+use borrow.Author.Tests.{lt-ltb, le-ltb, leb-true, ne_eqb}
 use lib.Dec.{eqb, leb, ltb}
 use lib.ListN.{length, get_or, take}
 use lib.Seq.{take_all}
 use Rattle.frame.specs.Every.{every}
-use Rattle.frame.proofs.BoolLaws.{and_left, and_right, and_true}
+use Rattle.frame.proofs.BoolLaws.{and_left, and_right, and_true, and_false}
 use Rattle.frame.proofs.EveryLaws.{every_at, every_intro}
 use Rattle.frame.proofs.PartLaws.{part_length}
 use Rattle.text.specs.Class.{is_capital}
@@ -90,9 +90,19 @@ module _ (t : List ℕ) (whole : length t ≡ currency_count t * currency_size) 
     number : x ≡ big_endian (currency_at t k)
     number = read ∙ ap big_endian (take_all 8 w (omega (arith, ap length lent, code_length k h)) ∙ lent)
 
-    pub code_decides : currency_ok t k ≡ not (is_special w) && ltb before x
+    code_decides : currency_ok t k ≡ not (is_special w) && ltb before x
     unfolding currency_ok
     code_decides = rw (code_capitals k h, follows_number k h, ← e, ← number, ← lent) refl
+
+    -- its number is no higher than the one before; it is special; and else
+    pub code_low : x ≤ before → currency_ok t k ≡ false
+    code_low low = code_decides ∙ rw (le-ltb _ _ low, and_false) refl
+
+    pub code_special : is_special w ≡ true → currency_ok t k ≡ false
+    code_special special = code_decides ∙ rw special refl
+
+    pub code_in_order : before < x → is_special w ≡ false → currency_ok t k ≡ true
+    code_in_order above plain = code_decides ∙ rw (plain, lt-ltb _ _ above) refl
 
     pub code_kept : x ≡ number_before t (k + 1)
     code_kept = let last : k + 1 - 1 ≡ k = omega arith in rw (ne_eqb (k + 1) 0 (omega arith), last) number

@@ -3,14 +3,18 @@
 use Prim.Native.Nat.{ℕ, ◌*◌, ◌≤◌, ◌<◌}
 use native.Mathlib.Omega.{arith}
 use mathlib.Core.Bool.{Bool, true, false, ◌&&◌, ◌||◌, not, false≢true}
-use mathlib.Core.List.{List}
+use mathlib.Core.List.{List, []}
 use mathlib.Core.Path.{◌≡◌, refl, sym, ◌∙◌}
 use borrow.Author.Tests.{lt-ltb, le-ltb, ltb-true, eqb-false, not-true}
 use lib.Dec.{ltb, eqb}
-use lib.ListN.{length, length-take, length-drop}
+use lib.ListN.{length, get_or, length-take, length-drop}
+use Rattle.std.specs.List.{position}
+use Rattle.frame.specs.Every.{within, least}
+use Rattle.frame.specs.Parts.{AreParts}
 use Rattle.frame.proofs.BoolLaws.{and_left, and_right}
 use Rattle.frame.proofs.EveryLaws.{every_at}
 use Rattle.frame.proofs.LeastLaws.{least_hit, least_is}
+use Rattle.frame.proofs.ListLaws.{position_least}
 use Rattle.frame.proofs.PartLaws.{part_length}
 use Rattle.text.specs.Bytes.{same}
 use Rattle.text.specs.Number.{number_at}
@@ -36,14 +40,16 @@ address_length t k h =
     let row : length (reporter_at t k) ≡ reporter_size = part_length reporter_size k t (omega arith) in
     rw (length-take, length-drop, row) refl
 
--- the returns of a test of row k for what a part of it has to be: as that part comes out; that there is no such row
-module _ (t f : List ℕ) (k : ℕ) (part : List ℕ → List ℕ) (test : List ℕ → List ℕ → Bool) {count : ℕ} (e : count ≡ reporter_count t) where
-  pub row_tested : {w v : List ℕ} {r : Bool} → k < count → w ≡ reporter_at t k → v ≡ part w → r ≡ test v f
-      → r ≡ ltb k (reporter_count t) && test (part (reporter_at t k)) f
-  row_tested h p q s = s ∙ rw (q, p, ← e, lt-ltb _ _ h) refl
+-- where the first row stands of which a part is as it has to be
+module _ (t f : List ℕ) (part : List ℕ → List ℕ) (test : List ℕ → List ℕ → Bool) (rows : List (List ℕ)) (cut : AreParts reporter_size t rows) where
+  abbrev passes : ℕ → Bool
+  passes k = ltb k (reporter_count t) && test (part (reporter_at t k)) f
 
-  pub row_absent : count ≤ k → ltb k count ≡ ltb k (reporter_count t) && test (part (reporter_at t k)) f
-  row_absent h = let none : ltb k count ≡ false = le-ltb _ _ h in rw (← e, none) refl
+  pub row_found : position (λ w. test (part w) f) rows ≡ within (reporter_count t) (least (reporter_count t) passes)
+  row_found =
+      let same : (k : ℕ) → k < length rows → passes k ≡ test (part (get_or rows k [])) f =
+        λ k h. let inside : k < reporter_count t = omega arith in rw (lt-ltb _ _ inside, cut.each k [] h) refl in
+      rw (position_least (λ w. test (part w) f) rows [] passes same, cut.count) refl
 
 -- a row that is found has what was looked up
 pub row_code_found : (t f : List ℕ) → row_by_code t f < reporter_count t → has_code t f (row_by_code t f) ≡ true

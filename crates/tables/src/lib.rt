@@ -1,15 +1,17 @@
 // The lent tables: who reports, and which currencies are money.
 #![tactic(auto)]
 
-ghost use Rattle.std.specs.Prelude.{◌*◌, ◌<◌, true, ◌||◌, ◌≡◌, eqb, length};
-ghost use Rattle.frame.specs.Every.{every};
+ghost use Rattle.std.specs.Prelude.{◌*◌, ◌/◌, ◌<◌, true, ◌||◌, ◌&&◌, ◌≡◌, not, eqb, length};
+ghost use Rattle.frame.specs.Every.{every, within};
+ghost use Rattle.frame.specs.Parts.{AreParts};
+ghost use Rattle.std.specs.List.{list_all};
 ghost use Rattle.text.specs.Class.{is_capital};
 ghost use Rattle.text.specs.Bytes.{all, same};
 ghost use Rattle.text.specs.Number.{number_at};
-ghost use Rattle.tables.specs.Reporters.{reporter_count, reporter_at, code_of, address_of, mailbox_bytes, mailbox_of, mailbox_form, reporter_form};
-ghost use Rattle.tables.specs.Reporters.{reporters_differ, reporter_ok, reporters_ok, has_code, has_address, has_mailbox, has_by, first_row_by};
+ghost use Rattle.tables.specs.Reporters.{reporter_size, reporter_count, code_of, address_of, mailbox_bytes, mailbox_of, mailbox_form, reporter_form};
+ghost use Rattle.tables.specs.Reporters.{reporters_differ, reporter_ok, reporters_ok, has_code, has_address, has_mailbox};
 ghost use Rattle.tables.specs.Reporters.{row_by_code, row_by_address};
-ghost use Rattle.tables.specs.Currencies.{currency_size, currency_count, currency_at, is_special, currency_ok, currencies_ok, found_money};
+ghost use Rattle.tables.specs.Currencies.{currency_size, currency_count, is_special, currency_ok, currencies_ok, found_money};
 ghost use Rattle.refusal.specs.Refusal.{number_in};
 ghost use Rattle.tables.specs.Tables.{tables_flaw, lent};
 
@@ -26,6 +28,11 @@ const CURRENCY_SIZE: usize = 3;
 
 const CURRENCY_LIMIT: usize = 512;
 
+// A row of the reporters table, and a code of the currency list.
+type Row = [u8; REPORTER_SIZE];
+
+type Code = [u8; CURRENCY_SIZE];
+
 // How many whole rows a reporters table has.
 pub fn reporter_count(t: &[u8]) -> usize
     ensures { result ≡ reporter_count t.now }
@@ -33,39 +40,45 @@ pub fn reporter_count(t: &[u8]) -> usize
     t.len() / REPORTER_SIZE
 }
 
-// Row k of a reporters table.
-fn row(t: &[u8], k: usize) -> &[u8]
-    requires { k < reporter_count t.now }
-    ensures { result.now ≡ reporter_at t.now k }
+// The whole parts of N bytes of a table: its rows, or its codes.
+#[tactic(auto, using(frame::proofs::ListLaws::chunks_parts))]
+fn parts<const N: usize>(t: &[u8]) -> &[[u8; N]]
+    requires { 0 < N }
+    ensures { AreParts N t.now result.now }
 {
-    let a = k * REPORTER_SIZE;
-    let e = a + REPORTER_SIZE;
-    &t[a..e]
+    t.as_chunks().0
+}
+
+// The rows of a reporters table.
+fn rows(t: &[u8]) -> &[Row]
+    ensures { AreParts reporter_size t.now result.now }
+{
+    parts(t)
 }
 
 // The bank code of a row.
-fn code_of(w: &[u8]) -> &[u8]
+fn code_of(w: &Row) -> &[u8]
     ensures { result.now ≡ code_of w.now }
 {
-    text::front(w, 5)
+    &w[..5]
 }
 
 // The SWIFT address of a row.
-fn address_of(w: &[u8]) -> &[u8]
+fn address_of(w: &Row) -> &[u8]
     ensures { result.now ≡ address_of w.now }
 {
-    text::front(text::rest(w, 5), 11)
+    &w[5..16]
 }
 
 // The eight bytes of a row that hold its mailbox, with the spaces behind it.
-fn mailbox_bytes(w: &[u8]) -> &[u8]
+fn mailbox_bytes(w: &Row) -> &[u8]
     ensures { result.now ≡ mailbox_bytes w.now }
 {
-    text::front(text::rest(w, 16), 8)
+    &w[16..24]
 }
 
 // The mailbox of a row, without the spaces behind it.
-fn mailbox_of(w: &[u8]) -> &[u8]
+fn mailbox_of(w: &Row) -> &[u8]
     ensures { result.now ≡ mailbox_of w.now }
 {
     let m = mailbox_bytes(w);
@@ -73,7 +86,7 @@ fn mailbox_of(w: &[u8]) -> &[u8]
 }
 
 // Whether the mailbox of a row is a name with nothing but spaces behind it.
-fn is_mailbox(w: &[u8]) -> bool
+fn is_mailbox(w: &Row) -> bool
     ensures { result ≡ mailbox_form w.now }
 {
     let name = mailbox_of(w);
@@ -81,17 +94,17 @@ fn is_mailbox(w: &[u8]) -> bool
 }
 
 // Whether a row has the form of a reporter's.
-fn is_reporter(w: &[u8]) -> bool
+fn is_reporter(w: &Row) -> bool
     ensures { result ≡ reporter_form w.now }
 {
     identifier::is_bank_code(code_of(w))
         & identifier::is_swift(address_of(w))
         & is_mailbox(w)
-        & text::is_zero(text::rest(w, 24))
+        & text::is_zero(&w[24..])
 }
 
 // Whether two rows have the same word in their bank codes or in their addresses: the last two digits, the first eight bytes. Most rows have not.
-fn may_agree<'a>(v: &'a [u8], w: &'a [u8]) -> bool
+fn may_agree(v: &Row, w: &Row) -> bool
     ensures { result ≡ (eqb (number_at 2 3 (code_of v.now)) (number_at 2 3 (code_of w.now))
         || eqb (number_at 8 0 (address_of v.now)) (number_at 8 0 (address_of w.now))) }
 {
@@ -100,31 +113,20 @@ fn may_agree<'a>(v: &'a [u8], w: &'a [u8]) -> bool
 }
 
 // Whether two rows differ in bank code and in address.
-fn rows_differ(t: &[u8], k: usize, j: usize) -> bool
-    requires { (k < reporter_count t.now) × (j < reporter_count t.now) }
-    ensures { result ≡ reporters_differ t.now k j }
+fn rows_differ(v: &Row, w: &Row) -> bool
+    ensures { result ≡ (not (same (code_of v.now) (code_of w.now)) && not (same (address_of v.now) (address_of w.now))) }
 {
-    let v = row(t, k);
-    let w = row(t, j);
     if !may_agree(v, w) {
         return true;
     }
     !text::same(code_of(v), code_of(w)) & !text::same(address_of(v), address_of(w))
 }
 
-// Whether row k differs from each row before it.
-fn is_new(t: &[u8], k: usize) -> bool
-    requires { k < reporter_count t.now }
-    ensures { result ≡ every k (reporters_differ t.now k) }
+// Whether row w differs from each row before it.
+fn is_new(w: &Row, earlier: &[Row]) -> bool
+    ensures { result ≡ list_all (λ v. not (same (code_of w.now) (code_of v)) && not (same (address_of w.now) (address_of v))) earlier.now }
 {
-    let mut j = 0;
-    while j < k {
-        if !rows_differ(t, k, j) {
-            return false;
-        }
-        j += 1;
-    }
-    true
+    earlier.iter().all(|v| rows_differ(w, v))
 }
 
 // Whether row k is in order.
@@ -132,7 +134,9 @@ fn reporter_ok(t: &[u8], k: usize) -> bool
     requires { k < reporter_count t.now }
     ensures { result ≡ reporter_ok t.now k }
 {
-    is_reporter(row(t, k)) & is_new(t, k)
+    let rows = rows(t);
+    let w = &rows[k];
+    is_reporter(w) & is_new(w, &rows[..k])
 }
 
 // Whether the reporters table is in order; else the call is refused by 2.
@@ -145,110 +149,65 @@ pub fn reporters_ok(t: &[u8]) -> bool
     if t.len() % REPORTER_SIZE != 0 {
         return false;
     }
-    let count = reporter_count(t);
-    let mut k = 0;
-    while k < count {
+    for k in 0..reporter_count(t) {
         if !reporter_ok(t, k) {
             return false;
         }
-        k += 1;
     }
     true
 }
 
 // Whether row k has the bank code f.
-pub fn has_code<'a>(t: &'a [u8], f: &'a [u8], k: usize) -> bool
+#[tactic(auto, unfolding(crate::specs::Reporters::has_code))]
+pub fn has_code(t: &[u8], f: &[u8], k: usize) -> bool
     ensures { result ≡ has_code t.now f.now k }
 {
-    k < reporter_count(t) && text::same(code_of(row(t, k)), f)
+    rows(t).get(k).is_some_and(|w| text::same(code_of(w), f))
 }
 
 // Whether row k has the address f, which may lack the XXX at its end.
-pub fn has_address<'a>(t: &'a [u8], f: &'a [u8], k: usize) -> bool
+#[tactic(auto, unfolding(crate::specs::Reporters::has_address))]
+pub fn has_address(t: &[u8], f: &[u8], k: usize) -> bool
     ensures { result ≡ has_address t.now f.now k }
 {
-    k < reporter_count(t) && identifier::same_address(address_of(row(t, k)), f)
+    rows(t).get(k).is_some_and(|w| identifier::same_address(address_of(w), f))
 }
 
 // Whether row k has the mailbox f.
-pub fn has_mailbox<'a>(t: &'a [u8], f: &'a [u8], k: usize) -> bool
+#[tactic(auto, unfolding(crate::specs::Reporters::has_mailbox))]
+pub fn has_mailbox(t: &[u8], f: &[u8], k: usize) -> bool
     ensures { result ≡ has_mailbox t.now f.now k }
 {
-    k < reporter_count(t) && text::same(mailbox_of(row(t, k)), f)
+    rows(t).get(k).is_some_and(|w| text::same(mailbox_of(w), f))
 }
 
-// Whether row k has f as its address, or as its bank code.
-fn has<'a>(t: &'a [u8], f: &'a [u8], k: usize, addressed: bool) -> bool
-    ensures { result ≡ has_by addressed t.now f.now k }
+// The first row with the bank code f.
+pub fn row_by_code(t: &[u8], f: &[u8]) -> Option<usize>
+    ensures { result ≡ within (reporter_count t.now) (row_by_code t.now f.now) }
 {
-    if addressed {
-        has_address(t, f, k)
-    } else {
-        has_code(t, f, k)
-    }
+    rows(t).iter().position(|w| text::same(code_of(w), f))
 }
 
-// The first row with the address f, or with the bank code; the count of rows where none has it.
-fn first_row<'a>(t: &'a [u8], f: &'a [u8], addressed: bool) -> usize
-    ensures { result ≡ first_row_by addressed t.now f.now }
+// The first row with the address f.
+pub fn row_by_address(t: &[u8], f: &[u8]) -> Option<usize>
+    ensures { result ≡ within (reporter_count t.now) (row_by_address t.now f.now) }
 {
-    let count = reporter_count(t);
-    let mut k = 0;
-    while k < count {
-        if has(t, f, k, addressed) {
-            return k;
-        }
-        k += 1;
-    }
-    k
+    rows(t).iter().position(|w| identifier::same_address(address_of(w), f))
 }
 
-// The first row with the bank code f; the count of rows where none has it.
-pub fn row_by_code<'a>(t: &'a [u8], f: &'a [u8]) -> usize
-    ensures { result ≡ row_by_code t.now f.now }
+// The codes of a currency list.
+fn codes(t: &[u8]) -> &[Code]
+    ensures { AreParts currency_size t.now result.now }
 {
-    first_row(t, f, false)
-}
-
-// The first row with the address f; the count of rows where none has it.
-pub fn row_by_address<'a>(t: &'a [u8], f: &'a [u8]) -> usize
-    ensures { result ≡ row_by_address t.now f.now }
-{
-    first_row(t, f, true)
-}
-
-// How many whole codes a currency list has.
-fn currency_count(t: &[u8]) -> usize
-    ensures { result ≡ currency_count t.now }
-{
-    t.len() / CURRENCY_SIZE
-}
-
-// Code k of a currency list.
-fn currency(t: &[u8], k: usize) -> &[u8]
-    requires { k < currency_count t.now }
-    ensures { result.now ≡ currency_at t.now k }
-{
-    let a = k * CURRENCY_SIZE;
-    let e = a + CURRENCY_SIZE;
-    &t[a..e]
+    parts(t)
 }
 
 // Whether s is a special code, which is no currency: XX, then X, K, O or Z.
+#[tactic(auto, using(crate::proofs::CodeLaws::special_none, crate::proofs::CodeLaws::special_letters))]
 pub fn is_special(s: &[u8]) -> bool
     ensures { result ≡ is_special s.now }
 {
-    if s.len() != CURRENCY_SIZE {
-        return false;
-    }
-    if s[0] != b'X' {
-        return false;
-    }
-    if s[1] != b'X' {
-        return false;
-    }
-    let last = s[2];
-    (last == b'X') | (last == b'K') | (last == b'O') | (last == b'Z')
+    matches!(s, [b'X', b'X', b'X' | b'K' | b'O' | b'Z'])
 }
 
 // Whether the codes of a list of capitals are in order: none is special, and as numbers they ascend.
@@ -256,11 +215,8 @@ fn ascends(t: &[u8]) -> bool
     requires { (length t.now ≡ currency_count t.now * currency_size) × (all is_capital t.now ≡ true) }
     ensures { result ≡ every (currency_count t.now) (currency_ok t.now) }
 {
-    let count = currency_count(t);
-    let mut before: u64 = 0;
-    let mut k = 0;
-    while k < count {
-        let w = currency(t, k);
+    let mut before = 0;
+    for w in codes(t) {
         let x = text::big_endian(w);
         if x <= before {
             return false;
@@ -269,7 +225,6 @@ fn ascends(t: &[u8]) -> bool
             return false;
         }
         before = x;
-        k += 1;
     }
     true
 }
@@ -288,14 +243,16 @@ pub fn currencies_ok(t: &[u8]) -> bool
 }
 
 // Whether s is money: a search of the ascending list, which halves what is left at each turn.
-pub fn is_money<'a>(t: &'a [u8], s: &'a [u8]) -> bool
+// As it is: the clause names what this search finds in any list, found_money, and std's binary_search_by compares at other places of a list out of order.
+pub fn is_money(t: &[u8], s: &[u8]) -> bool
     ensures { result ≡ found_money t.now s.now }
 {
+    let codes = codes(t);
     let mut low = 0;
-    let mut high = currency_count(t);
+    let mut high = codes.len();
     while low < high {
         let middle = low + (high - low) / 2;
-        match text::compare(currency(t, middle), s) {
+        match text::compare(&codes[middle], s) {
             Order::Same => {
                 return true;
             }

@@ -1,24 +1,26 @@
+use native.Mathlib.Omega.{arith}
+use mathlib.Core.List.{[]}
 use Rattle.text.proofs.SearchLaws.{left_all, left_none, left_hit, left_above, left_under}
 use Rattle.tables.specs.Currencies.{currency_at, found_money}
 use Rattle.tables.proofs.is_money.Goals as goal
 
 pub loop-low-init : goal.loop-low-init
-loop-low-init c = left_all _ (currency_at _) _ _ c.currency_count-high.ensures
+loop-low-init c = left_all _ (currency_at _) _ _ c.codes-codes.ensures.count
 
 pub returns-in-Same : goal.returns-in-Same
 unfolding found_money
 returns-in-Same c =
-    left_hit _ _ _ _ _ c.loop-low.invariant c.loop-low-test.true c.currency.ensures
+    left_hit _ _ _ _ _ c.loop-low.invariant c.loop-low-test.true (c.codes-codes.ensures.each _ [] (omega (arith, c.loop-low.invariant.0, c.codes-codes.ensures.count)))
     c.compare.ensures c.in-Same.is
 
 pub loop-low-preserved-in-Less : goal.loop-low-preserved-in-Less
 loop-low-preserved-in-Less c =
-    left_above _ _ _ _ _ c.loop-low.invariant c.loop-low-test.true c.currency.ensures
+    left_above _ _ _ _ _ c.loop-low.invariant c.loop-low-test.true (c.codes-codes.ensures.each _ [] (omega (arith, c.loop-low.invariant.0, c.codes-codes.ensures.count)))
     c.compare.ensures c.in-Less.is
 
 pub loop-low-preserved : goal.loop-low-preserved
 loop-low-preserved c =
-    left_under _ _ _ _ _ c.loop-low.invariant c.loop-low-test.true c.currency.ensures
+    left_under _ _ _ _ _ c.loop-low.invariant c.loop-low-test.true (c.codes-codes.ensures.each _ [] (omega (arith, c.loop-low.invariant.0, c.codes-codes.ensures.count)))
     c.compare.ensures c.in-Greater.is
 
 pub returns : goal.returns

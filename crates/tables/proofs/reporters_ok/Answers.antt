@@ -21,7 +21,7 @@ returns-then-t-ne0 c =
     table_ragged (reporter_limit * reporter_size) reporter_size (reporter_ok t) t c.if-t-ne0.true
 
 pub loop-k-init : goal.loop-k-init
-loop-k-init c = (search rules, every_none _)
+loop-k-init c = every_none _
 
 pub returns-then-not-reporter_ok : goal.returns-then-not-reporter_ok
 unfolding reporters_ok
@@ -31,11 +31,11 @@ returns-then-not-reporter_ok c =
     c.if-t-ne0.false (search rules) c.reporter_ok.ensures (ap not c.if-not-reporter_ok.true)
 
 pub loop-k-preserved : goal.loop-k-preserved
-loop-k-preserved c = (search rules, every_more _ _ c.loop-k.invariant.1 (sym c.reporter_ok.ensures ∙ (c.if-not-reporter_ok.false)))
+loop-k-preserved c = every_more _ _ c.loop-k.invariant (sym c.reporter_ok.ensures ∙ (c.if-not-reporter_ok.false))
 
 pub returns : goal.returns
 unfolding reporters_ok
 returns c =
     let t = c.args.t.now in
     table_done (reporter_limit * reporter_size) reporter_size (reporter_ok t) t c.loop-k.k c.if-t.false c.if-t-ne0.false
-    c.loop-k.invariant.0 (search rules) c.loop-k.invariant.1
+    (search rules) (search rules) c.loop-k.invariant
