@@ -5,7 +5,7 @@ use native.Mathlib.Omega.{arith}
 use mathlib.Core.Bool.{Bool, true, false, ◌&&◌, ◌||◌, not, false≢true}
 use mathlib.Core.List.{List, []}
 use mathlib.Core.Path.{◌≡◌, refl, sym, ◌∙◌}
-use borrow.Author.Tests.{lt-ltb, le-ltb, ltb-true, eqb-false, not-true}
+use borrow.Author.Tests.{lt-ltb, ltb-true, eqb-false, not-true}
 use lib.Dec.{ltb, eqb}
 use lib.ListN.{length, get_or, length-take, length-drop}
 use Rattle.std.specs.List.{position}
@@ -48,7 +48,7 @@ module _ (t f : List ℕ) (part : List ℕ → List ℕ) (test : List ℕ → Li
   pub row_found : position (λ w. test (part w) f) rows ≡ within (reporter_count t) (least (reporter_count t) passes)
   row_found =
       let same : (k : ℕ) → k < length rows → passes k ≡ test (part (get_or rows k [])) f =
-        λ k h. let inside : k < reporter_count t = omega arith in rw (lt-ltb _ _ inside, cut.each k [] h) refl in
+      λ k h. let inside : k < reporter_count t = omega arith in rw (lt-ltb _ _ inside, cut.each k [] h) refl in
       rw (position_least (λ w. test (part w) f) rows [] passes same, cut.count) refl
 
 -- a row that is found has what was looked up

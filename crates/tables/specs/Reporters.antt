@@ -1,6 +1,6 @@
 -- The reporters table of document 01, "Lent tables and the ledger": 0 to 16 rows of 32 bytes; and what is looked up in it.
 -- Assumes nothing.
-use Rattle.std.specs.Prelude.{ℕ, ◌*◌, ◌/◌, ◌%◌, Bool, ◌&&◌, not, cond, List, leb, ltb, eqb, length, take, drop}
+use Rattle.std.specs.Prelude.{ℕ, ◌*◌, ◌/◌, ◌%◌, Bool, ◌&&◌, not, List, leb, ltb, eqb, length, take, drop}
 use Prim.Native.Char.{code}
 use Rattle.frame.specs.Every.{every, least}
 use Rattle.frame.specs.Parts.{part}
@@ -73,10 +73,3 @@ row_by_code t f = least (reporter_count t) (has_code t f)
 
 unfoldable pub row_by_address : List ℕ → List ℕ → ℕ
 row_by_address t f = least (reporter_count t) (has_address t f)
-
--- what the one search looks for: the address, where the flag says so, else the bank code
-abbrev pub has_by : Bool → List ℕ → List ℕ → ℕ → Bool
-has_by addressed t f k = cond addressed (has_address t f k) (has_code t f k)
-
-abbrev pub first_row_by : Bool → List ℕ → List ℕ → ℕ
-first_row_by addressed t f = least (reporter_count t) (has_by addressed t f)

@@ -78,11 +78,12 @@ fn mailbox_bytes(w: &Row) -> &[u8]
 }
 
 // The mailbox of a row, without the spaces behind it.
+#[tactic(auto, using(text::proofs::SameLaws::position_or_end), unfolding(crate::specs::Reporters::mailbox_of))]
 fn mailbox_of(w: &Row) -> &[u8]
     ensures { result.now ≡ mailbox_of w.now }
 {
     let m = mailbox_bytes(w);
-    text::front(m, text::position(m, b' '))
+    text::front(m, text::position(m, b' ').unwrap_or(m.len()))
 }
 
 // Whether the mailbox of a row is a name with nothing but spaces behind it.
@@ -108,18 +109,19 @@ fn may_agree(v: &Row, w: &Row) -> bool
     ensures { result ≡ (eqb (number_at 2 3 (code_of v.now)) (number_at 2 3 (code_of w.now))
         || eqb (number_at 8 0 (address_of v.now)) (number_at 8 0 (address_of w.now))) }
 {
-    (text::read_u16(code_of(v), 3) == text::read_u16(code_of(w), 3))
-        | (text::read_u64(address_of(v), 0) == text::read_u64(address_of(w), 0))
+    (text::read::<u16>(code_of(v), 3) == text::read::<u16>(code_of(w), 3))
+        | (text::read::<u64>(address_of(v), 0) == text::read::<u64>(address_of(w), 0))
 }
 
 // Whether two rows differ in bank code and in address.
+#[tactic(auto, using(text::proofs::SameLaws::eq_same))]
 fn rows_differ(v: &Row, w: &Row) -> bool
     ensures { result ≡ (not (same (code_of v.now) (code_of w.now)) && not (same (address_of v.now) (address_of w.now))) }
 {
     if !may_agree(v, w) {
         return true;
     }
-    !text::same(code_of(v), code_of(w)) & !text::same(address_of(v), address_of(w))
+    (code_of(v) != code_of(w)) & (address_of(v) != address_of(w))
 }
 
 // Whether row w differs from each row before it.
@@ -158,11 +160,11 @@ pub fn reporters_ok(t: &[u8]) -> bool
 }
 
 // Whether row k has the bank code f.
-#[tactic(auto, unfolding(crate::specs::Reporters::has_code))]
+#[tactic(auto, using(text::proofs::SameLaws::eq_same), unfolding(crate::specs::Reporters::has_code))]
 pub fn has_code(t: &[u8], f: &[u8], k: usize) -> bool
     ensures { result ≡ has_code t.now f.now k }
 {
-    rows(t).get(k).is_some_and(|w| text::same(code_of(w), f))
+    rows(t).get(k).is_some_and(|w| code_of(w) == f)
 }
 
 // Whether row k has the address f, which may lack the XXX at its end.
@@ -170,29 +172,33 @@ pub fn has_code(t: &[u8], f: &[u8], k: usize) -> bool
 pub fn has_address(t: &[u8], f: &[u8], k: usize) -> bool
     ensures { result ≡ has_address t.now f.now k }
 {
-    rows(t).get(k).is_some_and(|w| identifier::same_address(address_of(w), f))
+    rows(t)
+        .get(k)
+        .is_some_and(|w| identifier::same_address(address_of(w), f))
 }
 
 // Whether row k has the mailbox f.
-#[tactic(auto, unfolding(crate::specs::Reporters::has_mailbox))]
+#[tactic(auto, using(text::proofs::SameLaws::eq_same), unfolding(crate::specs::Reporters::has_mailbox))]
 pub fn has_mailbox(t: &[u8], f: &[u8], k: usize) -> bool
     ensures { result ≡ has_mailbox t.now f.now k }
 {
-    rows(t).get(k).is_some_and(|w| text::same(mailbox_of(w), f))
+    rows(t).get(k).is_some_and(|w| mailbox_of(w) == f)
 }
 
 // The first row with the bank code f.
 pub fn row_by_code(t: &[u8], f: &[u8]) -> Option<usize>
     ensures { result ≡ within (reporter_count t.now) (row_by_code t.now f.now) }
 {
-    rows(t).iter().position(|w| text::same(code_of(w), f))
+    rows(t).iter().position(|w| code_of(w) == f)
 }
 
 // The first row with the address f.
 pub fn row_by_address(t: &[u8], f: &[u8]) -> Option<usize>
     ensures { result ≡ within (reporter_count t.now) (row_by_address t.now f.now) }
 {
-    rows(t).iter().position(|w| identifier::same_address(address_of(w), f))
+    rows(t)
+        .iter()
+        .position(|w| identifier::same_address(address_of(w), f))
 }
 
 // The codes of a currency list.

@@ -1,4 +1,4 @@
-use Rattle.std.proofs.Common.{◌≡◌, ◌≤◌, length, take, drop, length-drop, refl, arith}
+use Rattle.std.proofs.Common.{◌≡◌, take, drop, length-drop, refl, arith}
 use Rattle.std.proofs.lemmas.List.{take_all}
 use Rattle.tables.specs.Reporters.{reporter_form}
 use Rattle.tables.proofs.is_reporter.Goals as goal

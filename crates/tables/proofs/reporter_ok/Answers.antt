@@ -25,5 +25,5 @@ returns c =
     let differ : List ℕ → List ℕ → Bool = λ w v. not (same (code_of w) (code_of v)) && not (same (address_of w) (address_of v)) in
     let formed : c.is_reporter.result ≡ reporter_form (reporter_at t k) = c.is_reporter.ensures ∙ ap reporter_form (at k inside) in
     let new : c.is_new.result ≡ every k (reporters_differ t k) =
-      c.is_new.ensures ∙ list_all_front (differ (get_or rows k [])) rows [] (reporters_differ t k) (λ j h. rw (at k inside, at j h) refl) k (omega arith) in
+    c.is_new.ensures ∙ list_all_front (differ (get_or rows k [])) rows [] (reporters_differ t k) (λ j h. rw (at k inside, at j h) refl) k (omega arith) in
     rw (formed, new) refl

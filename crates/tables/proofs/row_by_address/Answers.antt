@@ -14,5 +14,5 @@ returns c =
     let rows = c.rows.result.now in
     let f = c.args.f.now in
     let found : c.position.result ≡ position (λ w. same_address (address_of w) f) rows =
-      position_from_yields_List (λ w. same_address (address_of w) f) _ _ c.position.result c.position.ensures.ran (YieldsList-from_slice rows cc) (λ x b q k. search (rules, tests)) in
+    position_from_yields_List (λ w. same_address (address_of w) f) _ _ c.position.result c.position.ensures.ran (YieldsList-from_slice rows cc) (λ x b q k. search (rules, tests)) in
     found ∙ row_found c.args.t.now f address_of same_address rows c.rows.ensures
