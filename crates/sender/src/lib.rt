@@ -8,15 +8,16 @@ ghost use Rattle.sender.specs.Sender.{reporter_row, reporter_tests, sender_check
 use failures::Failures;
 
 // The row found by F1 and F2; the count of rows where none is.
-#[tactic(auto, unfolding(crate::specs::Sender::reporter_row))]
+#[tactic(auto, using(tables::proofs::ReporterLaws::code_or_end, tables::proofs::ReporterLaws::address_or_end), unfolding(crate::specs::Sender::reporter_row))]
 fn reporter_row(reporters: &[u8], f1: &[u8], f2: &[u8]) -> usize
     ensures { result ≡ reporter_row reporters.now f1.now f2.now }
 {
-    match fields::letter_of(f1) {
+    let row = match fields::letter_of(f1) {
         b'B' => tables::row_by_code(reporters, f2),
         b'S' => tables::row_by_address(reporters, f2),
-        _ => tables::reporter_count(reporters),
-    }
+        _ => None,
+    };
+    row.unwrap_or(tables::reporter_count(reporters))
 }
 
 // Whether each of places 1 to 6 fails.

@@ -16,7 +16,8 @@ ghost use Rattle.refusal.specs.Refusal.{number_in};
 ghost use Rattle.tables.specs.Tables.{tables_flaw, lent};
 
 use refusal::Refusal;
-use text::{Class, Order};
+use std::cmp::Ordering;
+use text::Class;
 
 // Bytes of a row of the reporters table, and the most rows that it may have.
 pub const REPORTER_SIZE: usize = 32;
@@ -258,14 +259,14 @@ pub fn is_money(t: &[u8], s: &[u8]) -> bool
     let mut high = codes.len();
     while low < high {
         let middle = low + (high - low) / 2;
-        match text::compare(&codes[middle], s) {
-            Order::Same => {
+        match codes[middle][..].cmp(s) {
+            Ordering::Equal => {
                 return true;
             }
-            Order::Less => {
+            Ordering::Less => {
                 low = middle + 1;
             }
-            Order::Greater => {
+            Ordering::Greater => {
                 high = middle;
             }
         }
