@@ -10,11 +10,13 @@ use native.Mathlib.Omega.{arith}
 use borrow.Author.Tests.{eq-eqb, ne_eqb, eqb-true, eqb-false, leb-true}
 use lib.Bits.{bit_or, or_zero_l, or_add_and, and_le_r}
 use lib.Dec.{eqb, leb, ltb}
-use lib.ListN.{length, get_or, take, drop, length-take, length-drop, drop_of_length-le, take-append-drop}
-use lib.Seq.{drop-cons, drop-drop, drop_at, take-suc, take_all, take-add, take-take, get_or-take, length-take-le}
+use lib.ListN.{length, get_or, take, drop, length-drop, drop_of_length-le, take-append-drop}
+use lib.Seq.{drop-cons, drop-drop, drop_at, take_all, take-add, take-take, get_or-take, length-take-le}
+use Rattle.std.specs.List.{list_all}
+use Rattle.std.specs.Simd.{first_chunks}
 use Rattle.frame.specs.Every.{every}
 use Rattle.frame.specs.Parts.{part}
-use Rattle.frame.proofs.BoolLaws.{and_left, and_right, and_intro, and_false, and_true, and_assoc}
+use Rattle.frame.proofs.BoolLaws.{and_left, and_right, and_intro, and_true, and_assoc}
 use Rattle.text.specs.Class.{is_digit}
 use Rattle.text.specs.Bytes.{all, same, position_of}
 
@@ -48,68 +50,14 @@ all_append p (x ∷ s) t = rw (all_append p s t) (and_assoc (p x) _ _)
 pub all_split : (p : ℕ → Bool) (n : ℕ) (s : List ℕ) → all p s ≡ all p (take n s) && all p (drop n s)
 all_split p n s = ap (all p) (sym (take-append-drop n s)) ∙ all_append p (take n s) (drop n s)
 
--- what a loop over blocks knows: what is still to be found out at place i is the test of the rest; r is that of the block from i to j
-module _ (p : ℕ → Bool) (s : List ℕ) (i j : ℕ) (e : all p s ≡ all p (drop i s)) (h : i ≤ j) {r : Bool} (t : r ≡ all p (take (j - i) (drop i s))) where
-  block_and_rest : all p s ≡ r && all p (drop j s)
-  block_and_rest =
-      let next : i + (j - i) ≡ j = omega arith in
-      e ∙ all_split p (j - i) (drop i s) ∙ rw (← t, drop-drop, next) refl
-
-  pub block_go : r ≡ true → all p s ≡ all p (drop j s)
-  block_go q = block_and_rest ∙ rw q refl
-
-  pub block_stop : r ≡ false → false ≡ all p s
-  block_stop q = sym (block_and_rest ∙ rw q refl)
-
--- what a loop from the end of two lists of one length knows at place i: they are the same where their first i are
-same_snoc : (s t : List ℕ) (x y : ℕ) → length s ≡ length t → same (s ++ (x ∷ [])) (t ++ (y ∷ [])) ≡ same s t && eqb x y
-unfolding same
-same_snoc [] [] x y l = and_true (eqb x y)
-same_snoc [] (b ∷ t) x y l = absurd (omega arith)
-same_snoc (a ∷ s) [] x y l = absurd (omega arith)
-same_snoc (a ∷ s) (b ∷ t) x y l = rw (same_snoc s t x y (omega arith)) (and_assoc (eqb a b) _ _)
-
-module _ (s t : List ℕ) (l : length s ≡ length t) where
-  pub same_all : same s t ≡ same (take (length s) s) (take (length s) t)
-  same_all = rw (take_all (length s) s (le_of_eq refl), take_all (length s) t (le_of_eq (sym l))) refl
-
-  module _ (i : ℕ) (e : same s t ≡ same (take i s) (take i t)) (pos : 0 < i) (h : i ≤ length s) where
-    last_apart : same s t ≡ same (take (i - 1) s) (take (i - 1) t) && eqb (get_or s (i - 1) 0) (get_or t (i - 1) 0)
-    last_apart =
-        let next : i ≡ suc (i - 1) = omega arith in
-        let lengths : length (take (i - 1) s) ≡ length (take (i - 1) t) = simp length-take (omega arith) in
-        e ∙ ap (λ (n : ℕ). same (take n s) (take n t)) next
-        ∙ rw (take-suc s (i - 1) 0 (omega arith), take-suc t (i - 1) 0 (omega arith)) (same_snoc (take (i - 1) s) (take (i - 1) t) _ _ lengths)
-
-    pub same_go : get_or s (i - 1) 0 ≡ get_or t (i - 1) 0 → same s t ≡ same (take (i - 1) s) (take (i - 1) t)
-    same_go q = last_apart ∙ rw (eq-eqb _ _ q) (and_true _)
-
-    pub same_stop : (get_or s (i - 1) 0 ≡ get_or t (i - 1) 0 → ⊥) → false ≡ same s t
-    same_stop n = sym (last_apart ∙ rw (ne_eqb _ _ n, and_false) refl)
-
-  pub same_end : (i : ℕ) → same s t ≡ same (take i s) (take i t) → i ≤ 0 → true ≡ same s t
-  unfolding same
-  same_end zero e h = sym e
-  same_end (suc i) e h = absurd (omega arith)
-
-module _ (b : ℕ) (s : List ℕ) (i : ℕ) (e : position_of b s ≡ i + position_of b (drop i s)) where
-  pub position_go : i < length s → (get_or s i 0 ≡ b → ⊥) → position_of b s ≡ (i + 1) + position_of b (drop (i + 1) s)
-  unfolding position_of
-  position_go h n =
-      let q : position_of b (drop i s) ≡ suc (position_of b (drop (i + 1) s)) = rw (add-one, drop-cons s i 0, ne_eqb _ _ n) refl in
-      omega (arith, q)
-
-  pub position_stop : i < length s → get_or s i 0 ≡ b → i ≡ position_of b s
-  unfolding position_of
-  position_stop h t =
-      let q : position_of b (drop i s) ≡ 0 = rw (drop-cons s i 0, eq-eqb _ _ t) refl in
-      omega (arith, q)
-
-  pub position_end : i ≤ length s → length s ≤ i → i ≡ position_of b s
-  unfolding position_of
-  position_end l h =
-      let q : position_of b (drop i s) ≡ 0 = rw (drop_of_length-le s h) refl in
-      omega (arith, q)
+-- a list passes where its whole blocks do and what is left behind them
+pub all_blocks : (p : ℕ → Bool) (size n : ℕ) (s : List ℕ) → list_all (all p) (first_chunks size n s) && all p (drop (n * size) s) ≡ all p s
+unfolding all
+all_blocks p size zero s = rw zero-mul refl
+all_blocks p size (suc n) s =
+    let behind : suc n * size ≡ size + n * size = omega (arith, suc-mul n size) in
+    rw (behind, ← drop-drop (n * size) size s)
+    (sym (and_assoc (all p (take size s)) _ _) ∙ rw (all_blocks p size n (drop size s)) (sym (all_split p size s)))
 
 pub position_le : (b : ℕ) (s : List ℕ) → position_of b s ≤ length s
 unfolding position_of

@@ -1,17 +1,20 @@
 -- Laws of little-endian numbers, over the count of their bytes.
 -- Assumes nothing.
 use Prim.Native.Nat.{ℕ, zero, suc, ◌+◌, ◌-◌, ◌*◌, ◌/◌, ◌%◌, ◌^◌, ◌≤◌, ◌<◌}
-use native.Mathlib.Nat.{add-sub_cancel_left, div-lt_iff_lt-mul, pow-suc, pow-le-pow_right, lt_of_lt_of_le}
+use native.Mathlib.Nat.{div-lt_iff_lt-mul, pow-suc, div-one, div-div-eq-div-mul, pow-le-pow_right, lt_of_lt_of_le}
 use native.Mathlib.Numerals.{add-one}
 use native.Mathlib.Omega.{arith}
 use mathlib.Core.Bool.{Bool, true, false, cond}
-use mathlib.Core.List.{List, ◌∷◌, ◌++◌, head-eq_of_cons-eq, tail-eq_of_cons-eq}
+use mathlib.Core.List.{List, [], ◌∷◌, ◌++◌}
 use mathlib.Core.Path.{◌≡◌, refl, ap, sym, ◌∙◌}
-use borrow.Author.Tests.{le-leb, lt-leb, leb-true}
+use borrow.Author.Tests.{le-leb, lt-leb, leb-true, leb-false}
 use lib.Arith.{digits_lt}
 use lib.Dec.{lit<, leb}
-use lib.ListN.{length, get_or, take, drop, length-append, length-take, length-drop}
-use lib.Seq.{drop-cons, drop-length, take_at, drop_at, drop-drop, length-take-le}
+use lib.ListN.{length, get_or, take, drop, length-append, length-take, length-drop, take-append-drop, drop_of_length-le}
+use Rattle.std.proofs.Common.{append-nil}
+use lib.Seq.{take_at, drop_at, drop-drop, length-take-le, take-suc, take_all}
+use Rattle.std.specs.Int.{sum_through, byte_worth, byte_at, bytes_low_first}
+use Rattle.std.specs.Array.{IsFirstChunk}
 use Rattle.text.specs.Number.{little_endian, low_bytes, number_at, number_put}
 
 pub low_length : (n x : ℕ) → length (low_bytes n x) ≡ n
@@ -33,58 +36,6 @@ digit_more base v d i h k = rw (add-one, pow-suc) (digits_lt h k)
 
 pub below_power : (base : ℕ) {x i n : ℕ} → x < suc base ^ i → i ≤ n → x < suc base ^ n
 below_power base h k = lt_of_lt_of_le h (pow-le-pow_right (omega arith) k)
-
--- what a loop knows that reads a number from its highest byte down: at its start, after one byte more, at its end
-pub little_none : (w : List ℕ) → 0 ≡ little_endian (drop (length w) w)
-unfolding little_endian
-little_none w = rw drop-length
-
-little_cons : (b : ℕ) (bs : List ℕ) → little_endian (b ∷ bs) ≡ b + 256 * little_endian bs
-unfolding little_endian
-little_cons b bs = refl
-
-pub little_more : (w : List ℕ) (i : ℕ) {v b : ℕ} → v ≡ little_endian (drop i w) → b ≡ get_or w (i - 1) 0 → 0 < i → i ≤ length w
-    → v * 256 + b ≡ little_endian (drop (i - 1) w)
-little_more w i p q pos h =
-    let e : suc (i - 1) ≡ i = omega arith in
-    rw (p, q) (sym (ap little_endian (drop-cons w (i - 1) 0 (omega arith)) ∙ rw (e, little_cons) (omega arith)))
-
-pub little_done : (w : List ℕ) (i : ℕ) → i ≤ 0 → little_endian (drop i w) ≡ little_endian w
-little_done w zero h = refl
-little_done w (suc i) h = absurd (omega arith)
-
--- what a loop knows that writes a number's bytes, the lowest first
-pub low_next : (n i x left : ℕ) → i < n → low_bytes (n - i) left ≡ drop i (low_bytes n x)
-    → (left % 256 ≡ get_or (low_bytes n x) i 0) × (low_bytes (n - (i + 1)) (left / 256) ≡ drop (i + 1) (low_bytes n x))
-unfolding low_bytes
-low_next n i x left h e =
-    let s : n - i ≡ suc (n - (i + 1)) = omega arith in
-    let d : drop i (low_bytes n x) ≡ get_or (low_bytes n x) i 0 ∷ drop (suc i) (low_bytes n x) = drop-cons (low_bytes n x) i 0 (rw low_length h) in
-    let both : left % 256 ∷ low_bytes (n - (i + 1)) (left / 256) ≡ get_or (low_bytes n x) i 0 ∷ drop (suc i) (low_bytes n x)
-    = ap (λ (m : ℕ). low_bytes m left) (sym s) ∙ e ∙ d in
-    (head-eq_of_cons-eq both, tail-eq_of_cons-eq both ∙ ap (λ (m : ℕ). drop m (low_bytes n x)) (sym (add-one i)))
-
--- as many bytes are lent as are read or written
-pub lent_length : (n at : ℕ) (s : List ℕ) → at + n ≤ length s → length (take (at + n - at) (drop at s)) ≡ n
-lent_length n at s h = simp (length-take, length-drop) (omega arith)
-
--- the cases of reading and writing at a place
-pub number_out : (n at : ℕ) (s : List ℕ) → length s < at + n → 0 ≡ number_at n at s
-unfolding number_at
-number_out n at s h = rw (lt-leb _ _ h)
-
-pub number_in : (n at : ℕ) (s : List ℕ) → at + n ≤ length s → little_endian (take (at + n - at) (drop at s)) ≡ number_at n at s
-unfolding number_at
-number_in n at s h = rw (le-leb _ _ h, add-sub_cancel_left)
-
-pub put_out : (n at x : ℕ) (s : List ℕ) → length s < at + n → s ≡ number_put n at x s
-unfolding number_put
-put_out n at x s h = rw (lt-leb _ _ h)
-
-pub put_in : (n at x : ℕ) (s : List ℕ) {ys : List ℕ} → at + n ≤ length s → ys ≡ low_bytes (length (take (at + n - at) (drop at s))) x
-    → take at s ++ (ys ++ drop (at + n - at) (drop at s)) ≡ number_put n at x s
-unfolding number_put
-put_in n at x s h e = rw (le-leb _ _ h, e, lent_length n at s h, add-sub_cancel_left)
 
 -- what a write leaves: the length, and at its place the number
 pub put_length : (n at x : ℕ) (s : List ℕ) → length (number_put n at x s) ≡ length s
@@ -124,3 +75,96 @@ module _ (n at x : ℕ) (s : List ℕ) (fits : at + n ≤ length s) where
       sym (drop-drop n at _)
       ∙ rw (put_parts, drop_at (take at s) (low_bytes n x ++ drop n (drop at s)) at front_length)
       (drop_at (low_bytes n x) (drop n (drop at s)) n (low_length n x) ∙ drop-drop n at s)
+
+-- a number at a place is one at the start of what stands from there on, read and written
+module _ (n at : ℕ) (s : List ℕ) where
+  pub number_behind : number_at n 0 (drop at s) ≡ number_at n at s
+  unfolding number_at little_endian
+  number_behind = go (leb (0 + n) (length (drop at s))) (leb (at + n) (length s)) refl refl
+    where
+      x : ℕ
+      x = little_endian (take n (drop at s))
+
+      go : (a b : Bool) → leb (0 + n) (length (drop at s)) ≡ a → leb (at + n) (length s) ≡ b → cond a x 0 ≡ cond b x 0
+      go true true p q = refl
+      go false false p q = refl
+      go true false p q =
+          let none : n ≡ 0 = omega (arith, leb-true _ _ p, leb-false _ _ q, length-drop at s) in
+          ap (λ (m : ℕ). little_endian (take m (drop at s))) none
+      go false true p q = absurd (omega (arith, leb-false _ _ p, leb-true _ _ q, length-drop at s))
+
+  pub put_behind : (x : ℕ) → at ≤ length s → take at s ++ number_put n 0 x (drop at s) ≡ number_put n at x s
+  unfolding number_put
+  put_behind x h = go (leb (0 + n) (length (drop at s))) (leb (at + n) (length s)) refl refl
+    where
+      ys : List ℕ
+      ys = low_bytes n x ++ drop n (drop at s)
+
+      go : (a b : Bool) → leb (0 + n) (length (drop at s)) ≡ a → leb (at + n) (length s) ≡ b → take at s ++ cond a ys (drop at s) ≡ cond b (take at s ++ ys) s
+      go true true p q = refl
+      go false false p q = take-append-drop at s
+      go true false p q = absurd (omega (arith, leb-true _ _ p, leb-false _ _ q, length-drop at s))
+      go false true p q = absurd (omega (arith, leb-false _ _ p, leb-true _ _ q, length-drop at s))
+
+  pub put_rest : (x : ℕ) {ys : List ℕ} → at ≤ length s → ys ≡ number_put n 0 x (take (length s - at) (drop at s))
+      → take at s ++ (ys ++ drop (length s - at) (drop at s)) ≡ number_put n at x s
+  put_rest x h e =
+      let all : length (drop at s) ≤ length s - at = omega (arith, length-drop at s) in
+      rw (e, take_all _ _ all, drop_of_length-le (drop at s) all, append-nil) (put_behind x h)
+
+  pub put_nowhere : (x : ℕ) → length s < at → s ≡ number_put n at x s
+  unfolding number_put
+  put_nowhere x h = let out : length s < at + n = omega arith in rw (lt-leb _ _ out)
+
+-- the bytes of a number by the standard library
+little_snoc : (s : List ℕ) (b : ℕ) → little_endian (s ++ (b ∷ [])) ≡ little_endian s + b * 256 ^ length s
+unfolding little_endian
+little_snoc [] b = omega arith
+little_snoc (x ∷ s) b = rw (little_snoc s b, pow-suc 256 (length s)) (omega arith)
+
+little_one : (s : List ℕ) → 0 < length s → get_or s 0 0 ≡ little_endian (take 1 s)
+unfolding little_endian
+little_one [] h = absurd (omega arith)
+little_one (x ∷ s) h = omega arith
+
+little_next : (s : List ℕ) (n : ℕ) → suc n < length s → little_endian (take (suc n) s) + get_or s (suc n) 0 * 256 ^ suc n ≡ little_endian (take (suc (suc n)) s)
+little_next s n h =
+    let l : length (take (suc n) s) ≡ suc n = length-take-le (suc n) s (omega arith) in
+    rw (take-suc s (suc n) 0 h, little_snoc (take (suc n) s) (get_or s (suc n) 0), l) refl
+
+worth : (s : List ℕ) (n : ℕ) → n < length s → sum_through (λ i. byte_worth i (get_or s i 0)) n ≡ little_endian (take (suc n) s)
+worth s zero h = little_one s h
+worth s (suc n) h = ap (λ (v : ℕ). v + get_or s (suc n) 0 * 256 ^ suc n) (worth s n (omega arith)) ∙ little_next s n h
+
+pub low_from : (i n x : ℕ) → bytes_low_first i n x ≡ low_bytes n (x / 256 ^ i)
+unfolding low_bytes
+low_from i zero x = refl
+low_from i (suc n) x =
+    let next : x / 256 ^ suc i ≡ x / 256 ^ i / 256 = rw pow-suc (sym (div-div-eq-div-mul x (256 ^ i) 256)) in
+    rw (head i, low_from (suc i) n x, next) refl
+  where
+    head : (j : ℕ) → byte_at j x ≡ x / 256 ^ j % 256
+    head zero = rw div-one refl
+    head (suc j) = refl
+
+-- the cases of reading and writing at the start of a list
+pub front_out : (n : ℕ) (s : List ℕ) → length s < n → 0 ≡ number_at n 0 s
+unfolding number_at
+front_out n s h = let out : length s < 0 + n = omega arith in rw (lt-leb _ _ out)
+
+pub front_in : (n : ℕ) (s w : List ℕ) → IsFirstChunk s w (suc n) → sum_through (λ i. byte_worth i (get_or w i 0)) n ≡ number_at (suc n) 0 s
+unfolding number_at
+front_in n s w f =
+    let enough : 0 + suc n ≤ length s = omega (arith, f.enough) in
+    let l : length w ≡ suc n = rw f.same (length-take-le (suc n) s f.enough) in
+    rw (le-leb _ _ enough) (worth w n (omega arith) ∙ ap little_endian (take_all (suc n) w (omega arith) ∙ f.same))
+
+pub front_stays : (n x : ℕ) (s : List ℕ) → length s < n → s ≡ number_put n 0 x s
+unfolding number_put
+front_stays n x s h = let out : length s < 0 + n = omega arith in rw (lt-leb _ _ out)
+
+pub front_put : (n x : ℕ) (s : List ℕ) → n ≤ length s → bytes_low_first 0 n x ++ drop n s ≡ number_put n 0 x s
+unfolding number_put
+front_put n x s h =
+    let enough : 0 + n ≤ length s = omega arith in
+    rw (le-leb _ _ enough) (ap (λ (l : List ℕ). l ++ drop n s) (low_from 0 n x ∙ ap (low_bytes n) (div-one x)))

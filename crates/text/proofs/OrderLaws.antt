@@ -1,48 +1,16 @@
--- Laws of the order of texts: what a loop over two texts uses, and that it is a strict order.
+-- Laws of the order of texts: it is a strict order.
 -- Assumes nothing.
-use Prim.Native.Nat.{ℕ, ◌+◌, ◌<◌, ◌≤◌}
+use Prim.Native.Nat.{ℕ, ◌<◌}
 use mathlib.Core.Bool.{Bool, true, false, ◌&&◌, cond, false≢true}
 use mathlib.Core.List.{List, [], ◌∷◌}
-use mathlib.Core.Path.{◌≡◌, refl, sym, ◌∙◌}
-use native.Mathlib.Numerals.{add-one}
+use mathlib.Core.Path.{◌≡◌, refl}
 use native.Mathlib.Omega.{arith}
 use borrow.Author.Tests.{lt-ltb, le-ltb, ltb-true, ltb-false, eq-eqb, ne_eqb}
 use lib.Dec.{ltb, eqb}
-use lib.ListN.{length, get_or, drop, drop_of_length-le}
-use lib.Seq.{drop-cons}
 use Rattle.frame.proofs.BoolLaws.{and_false}
 use Rattle.std.specs.declared.cmp.Ordering.TheVariants.{Less, Equal, Greater}
 use Rattle.text.specs.Bytes.{same}
 use Rattle.text.specs.Order.{order_of, is_less, below}
-
--- what the loop knows at place i: the texts are ordered as their rests from i on
-module _ (s t : List ℕ) (i : ℕ) (e : order_of s t ≡ order_of (drop i s) (drop i t)) where
-  pub order_go : i < length s → i < length t → get_or t i 0 ≤ get_or s i 0 → get_or s i 0 ≤ get_or t i 0
-      → order_of s t ≡ order_of (drop (i + 1) s) (drop (i + 1) t)
-  unfolding order_of
-  order_go h k p q = e ∙ rw (add-one, drop-cons s i 0, drop-cons t i 0, le-ltb (get_or s i 0) (get_or t i 0) p, le-ltb (get_or t i 0) (get_or s i 0) q) refl
-
-  pub order_less : i < length s → i < length t → get_or s i 0 < get_or t i 0 → Less ≡ order_of s t
-  unfolding order_of
-  order_less h k p = sym (e ∙ rw (drop-cons s i 0, drop-cons t i 0, lt-ltb (get_or s i 0) (get_or t i 0) p) refl)
-
-  pub order_greater : i < length s → i < length t → get_or t i 0 < get_or s i 0 → Greater ≡ order_of s t
-  unfolding order_of
-  order_greater h k p =
-      let not-less : ltb (get_or s i 0) (get_or t i 0) ≡ false = le-ltb (get_or s i 0) (get_or t i 0) (omega arith) in
-      sym (e ∙ rw (drop-cons s i 0, drop-cons t i 0, not-less, lt-ltb (get_or t i 0) (get_or s i 0) p) refl)
-
-  pub order_longer : i < length s → length t ≤ i → Greater ≡ order_of s t
-  unfolding order_of
-  order_longer h k = sym (e ∙ rw (drop-cons s i 0, drop_of_length-le t k) refl)
-
-  pub order_shorter : i ≤ length s → length s ≤ i → length s < length t → Less ≡ order_of s t
-  unfolding order_of
-  order_shorter l h k = let m : i < length t = omega arith in sym (e ∙ rw (drop_of_length-le s h, drop-cons t i 0 m) refl)
-
-  pub order_end : length s ≤ i → length t ≤ length s → Equal ≡ order_of s t
-  unfolding order_of
-  order_end h k = let m : length t ≤ i = omega arith in sym (e ∙ rw (drop_of_length-le s h, drop_of_length-le t m) refl)
 
 -- a text is ordered the same as itself, and as no other
 pub order_same : (s t : List ℕ) → order_of s t ≡ Equal → same s t ≡ true

@@ -31,75 +31,75 @@ pub enum Class {
     TextByte,
 }
 
-// A number that stands in so many bytes, the lowest first.
+// A number of a fixed count of bytes, the lowest first.
 pub trait Word: Copy {
     ghost SIZE: { ℕ };
 
-    const SIZE: usize;
-
     ghost number: { Self → ℕ };
 
-    fn of(x: u64) -> Self
-        requires { x < 256 ^ SIZE }
-        ensures { number result ≡ x };
+    // The number in the first bytes of s; 0 where they are not all there.
+    fn read_first(s: &[u8]) -> Self
+        ensures { number result ≡ number_at SIZE 0 s.now };
 
-    fn wide(self) -> u64
-        ensures { result ≡ number self };
-
-    ghost short: { SIZE ≤ 8 };
+    // Writes it into the first bytes of s; nothing where they are not all there.
+    fn write_first(self, s: &mut [u8])
+        ensures { s.new ≡ number_put SIZE 0 (number self) s.old };
 }
 
 impl Word for u16 {
     ghost SIZE = { 2 };
 
-    const SIZE: usize = 2;
-
     ghost number = { λ x. x };
 
-    ghost short = { Prim.search rules };
-
-    fn of(x: u64) -> u16 {
-        x as u16
+    fn read_first(s: &[u8]) -> u16 {
+        match s.first_chunk() {
+            Some(w) => u16::from_le_bytes(*w),
+            None => 0,
+        }
     }
 
-    fn wide(self) -> u64 {
-        u64::from(self)
+    fn write_first(self, s: &mut [u8]) {
+        if let Some(w) = s.first_chunk_mut() {
+            *w = u16::to_le_bytes(self);
+        }
     }
 }
 
 impl Word for u32 {
     ghost SIZE = { 4 };
 
-    const SIZE: usize = 4;
-
     ghost number = { λ x. x };
 
-    ghost short = { Prim.search rules };
-
-    fn of(x: u64) -> u32 {
-        x as u32
+    fn read_first(s: &[u8]) -> u32 {
+        match s.first_chunk() {
+            Some(w) => u32::from_le_bytes(*w),
+            None => 0,
+        }
     }
 
-    fn wide(self) -> u64 {
-        u64::from(self)
+    fn write_first(self, s: &mut [u8]) {
+        if let Some(w) = s.first_chunk_mut() {
+            *w = u32::to_le_bytes(self);
+        }
     }
 }
 
 impl Word for u64 {
     ghost SIZE = { 8 };
 
-    const SIZE: usize = 8;
-
     ghost number = { λ x. x };
 
-    ghost short = { Prim.search rules };
-
-    fn of(x: u64) -> u64 {
-        x
+    fn read_first(s: &[u8]) -> u64 {
+        match s.first_chunk() {
+            Some(w) => u64::from_le_bytes(*w),
+            None => 0,
+        }
     }
 
-    fn wide(self) -> u64 {
-        self
+    fn write_first(self, s: &mut [u8]) {
+        if let Some(w) = s.first_chunk_mut() {
+            *w = u64::to_le_bytes(self);
+        }
     }
 }
 
@@ -172,11 +172,9 @@ fn mark(c: Class, b: u8) -> u8
 pub fn all(c: Class, s: &[u8]) -> bool
     ensures { result ≡ all_of (belongs_to c) s.now }
 {
-    let mut marks: u8 = 0;
-    let mut i = 0;
-    while i < s.len() {
-        marks = marks | mark(c, s[i]);
-        i += 1;
+    let mut marks = 0;
+    for b in s {
+        marks |= mark(c, *b);
     }
     marks == 0
 }
@@ -218,143 +216,75 @@ pub fn rest(s: &[u8], k: usize) -> &[u8]
     if k <= s.len() { &s[k..] } else { &s[..0] }
 }
 
-// The number of up to eight bytes, the lowest first.
-fn number_of(w: &[u8]) -> u64
-    requires { length w.now ≤ 8 }
-    ensures { (result ≡ little_endian w.now) × (result < 256 ^ length w.now) }
-{
-    let mut value: u64 = 0;
-    let mut i = w.len();
-    while 0 < i {
-        i -= 1;
-        let b = w[i] as u64;
-        value = value * 256 + b;
-    }
-    value
-}
-
 // The number of the first eight bytes of s, of all where it has fewer, the highest first: texts of one length are ordered as these numbers are.
 pub fn big_endian(s: &[u8]) -> u64
     ensures { result ≡ big_endian (take 8 s.now) }
 {
     let w = front(s, 8);
-    let mut number: u64 = 0;
-    let mut i = 0;
-    while i < w.len() {
-        let b = w[i] as u64;
-        number = number * 256 + b;
-        i += 1;
+    let mut number = 0;
+    for b in w {
+        number = number * 256 + u64::from(*b);
     }
     number
 }
 
-// Writes the lowest bytes of x into w, as many as it has room for.
-fn put_number(w: &mut [u8], x: u64)
-    ensures { w.new ≡ low_bytes (length w.old) x }
-{
-    let mut left = x;
-    let mut i = 0;
-    while i < w.len() {
-        w[i] = (left % 256) as u8;
-        left = left / 256;
-        i += 1;
-    }
-}
-
-// The number in the n bytes of s from a place on, the lowest first; 0 where they are not all there.
-fn number_at(s: &[u8], at: usize, n: usize) -> u64
-    requires { n ≤ 8 }
-    ensures { (result ≡ number_at n at s.now) × (result < 256 ^ n) }
-{
-    if s.len() < n {
-        return 0;
-    }
-    if s.len() - n < at {
-        return 0;
-    }
-    number_of(&s[at..at + n])
-}
-
-// The number in the two bytes of s from a place on, the lowest first; 0 where they are not both there.
-pub fn read_u16(s: &[u8], at: usize) -> u16
-    ensures { result ≡ number_at 2 at s.now }
-{
-    number_at(s, at, 2) as u16
-}
-
-// The number in the four bytes of s from a place on, the lowest first; 0 where they are not all there.
-pub fn read_u32(s: &[u8], at: usize) -> u32
-    ensures { result ≡ number_at 4 at s.now }
-{
-    number_at(s, at, 4) as u32
-}
-
-// The number in the eight bytes of s from a place on, the lowest first; 0 where they are not all there.
-pub fn read_u64(s: &[u8], at: usize) -> u64
-    ensures { result ≡ number_at 8 at s.now }
-{
-    number_at(s, at, 8)
-}
-
-// Whether the bytes of s are all zero, block by block.
-pub fn is_zero(s: &[u8]) -> bool
-    ensures { result ≡ all_of is_zero s.now }
-{
-    let mut i = 0;
-    while ZERO_BLOCK <= s.len() - i {
-        let next = i + ZERO_BLOCK;
-        if !all(Class::Zero, &s[i..next]) {
-            return false;
-        }
-        i = next;
-    }
-    all(Class::Zero, &s[i..])
-}
-
-// Writes the n lowest bytes of x into s from a place on, the lowest first; nothing where they are not all there.
-fn put_at(s: &mut [u8], at: usize, n: usize, x: u64)
-    ensures { s.new ≡ number_put n at x s.old }
-{
-    if s.len() < n {
-        return;
-    }
-    if s.len() - n < at {
-        return;
-    }
-    put_number(&mut s[at..at + n], x);
-}
-
-// Writes x into the two bytes of s from a place on, the lowest first; nothing where they are not both there.
-pub fn write_u16(s: &mut [u8], at: usize, x: u16)
-    ensures { s.new ≡ number_put 2 at x s.old }
-{
-    put_at(s, at, 2, x as u64);
-}
-
-// Writes x into the four bytes of s from a place on, the lowest first; nothing where they are not all there.
-pub fn write_u32(s: &mut [u8], at: usize, x: u32)
-    ensures { s.new ≡ number_put 4 at x s.old }
-{
-    put_at(s, at, 4, x as u64);
-}
-
-// Writes x into the eight bytes of s from a place on, the lowest first; nothing where they are not all there.
-pub fn write_u64(s: &mut [u8], at: usize, x: u64)
-    ensures { s.new ≡ number_put 8 at x s.old }
-{
-    put_at(s, at, 8, x);
-}
-
 // The number in the bytes of s from a place on, the lowest first; 0 where they are not all there.
+#[tactic(auto, using(crate::proofs::NumberLaws::number_behind))]
 pub fn read<W: Word>(s: &[u8], at: usize) -> W
     ensures { W.number result ≡ number_at W.SIZE at s.now }
 {
-    W::of(number_at(s, at, W::SIZE))
+    W::read_first(rest(s, at))
 }
 
 // Writes x into the bytes of s from a place on, the lowest first; nothing where they are not all there.
 pub fn write<W: Word>(s: &mut [u8], at: usize, x: W)
     ensures { s.new ≡ number_put W.SIZE at (W.number x) s.old }
 {
-    put_at(s, at, W::SIZE, x.wide());
+    if at <= s.len() {
+        x.write_first(&mut s[at..]);
+    }
+}
+
+pub fn read_u16(s: &[u8], at: usize) -> u16
+    ensures { result ≡ number_at 2 at s.now }
+{
+    read(s, at)
+}
+
+pub fn read_u32(s: &[u8], at: usize) -> u32
+    ensures { result ≡ number_at 4 at s.now }
+{
+    read(s, at)
+}
+
+pub fn read_u64(s: &[u8], at: usize) -> u64
+    ensures { result ≡ number_at 8 at s.now }
+{
+    read(s, at)
+}
+
+pub fn write_u16(s: &mut [u8], at: usize, x: u16)
+    ensures { s.new ≡ number_put 2 at x s.old }
+{
+    write(s, at, x);
+}
+
+pub fn write_u32(s: &mut [u8], at: usize, x: u32)
+    ensures { s.new ≡ number_put 4 at x s.old }
+{
+    write(s, at, x);
+}
+
+pub fn write_u64(s: &mut [u8], at: usize, x: u64)
+    ensures { s.new ≡ number_put 8 at x s.old }
+{
+    write(s, at, x);
+}
+
+// Whether the bytes of s are all zero, block by block.
+pub fn is_zero(s: &[u8]) -> bool
+    ensures { result ≡ all_of is_zero s.now }
+{
+    let (blocks, rest) = s.as_chunks::<ZERO_BLOCK>();
+    blocks.iter().all(|block| all(Class::Zero, block)) && all(Class::Zero, rest)
 }

@@ -1,5 +1,4 @@
 use Rattle.std.proofs.Common.{List, ℕ}
-use borrow.Author.Rules.{rules}
 use Prim.Native.Nat.{◌+◌, ◌*◌, ◌^◌, ◌≤◌, ◌<◌}
 use native.Mathlib.Omega.{arith}
 use mathlib.Core.Path.{ap, ◌∙◌}
@@ -18,24 +17,25 @@ fits : (w : List ℕ) (number i : ℕ) → get_or w i 0 < 256 → number < 256 ^
     → number * 256 + get_or w i 0 < 2 ^ 64
 fits w number i byte h inside short = below_power 255 {n = 8} (more w number i byte h) (omega arith)
 
-pub loop-i-init : goal.loop-i-init
-loop-i-init c =
+pub loop-b-init : goal.loop-b-init
+loop-b-init c =
     let short : length c.front-w.result.now ≤ 8 = omega (arith, ap length c.front-w.ensures.bytes, length-take 8 c.args.s.now) in
-    (search rules, short, big_none, lit< tt)
-
-pub overflow_cast-b : goal.overflow_cast-b
-overflow_cast-b c = omega (arith, c.type_inv.w c.loop-i.i)
+    (short, big_none, lit< tt)
 
 pub overflow_mul-number : goal.overflow_mul-number
-overflow_mul-number c = let l = c.loop-i in record { fits = omega (arith, (fits _ l.number l.i (c.type_inv.w l.i).fits l.invariant.3 c.loop-i-test.true l.invariant.1)) }
+overflow_mul-number c =
+    let l = c.loop-b in
+    record { fits = omega (arith, (fits _ l.number l.b-index (c.type_inv.w l.b-index).fits l.invariant.2 c.loop-b-test.true l.invariant.0)) }
 
 pub overflow_add-number : goal.overflow_add-number
-overflow_add-number c = let l = c.loop-i in record { fits = omega (arith, (fits _ l.number l.i (c.type_inv.w l.i).fits l.invariant.3 c.loop-i-test.true l.invariant.1)) }
+overflow_add-number c =
+    let l = c.loop-b in
+    record { fits = rw c.from.ensures (fits _ l.number l.b-index (c.type_inv.w l.b-index).fits l.invariant.2 c.loop-b-test.true l.invariant.0) }
 
-pub loop-i-preserved : goal.loop-i-preserved
-loop-i-preserved c =
-    let l = c.loop-i in
-    (search rules, l.invariant.1, big_more _ _ c.loop-i-test.true l.invariant.2, more _ l.number l.i (c.type_inv.w l.i).fits l.invariant.3)
+pub loop-b-preserved : goal.loop-b-preserved
+loop-b-preserved c =
+    let l = c.loop-b in
+    rw c.from.ensures (l.invariant.0, big_more _ _ c.loop-b-test.true l.invariant.1, more _ l.number l.b-index (c.type_inv.w l.b-index).fits l.invariant.2)
 
 pub returns : goal.returns
-returns c = big_end _ _ c.loop-i-test.false c.loop-i.invariant.2 ∙ ap big_endian c.front-w.ensures.bytes
+returns c = big_end _ _ c.loop-b-test.false c.loop-b.invariant.1 ∙ ap big_endian c.front-w.ensures.bytes
