@@ -1,50 +1,55 @@
 -- Laws of the parts of a line: where they lie, that what is left grows less, and which bytes pieces are.
 -- Assumes nothing.
-use Prim.Native.Nat.{ℕ, zero, suc, ◌+◌, ◌-◌, ◌*◌, ◌<◌, ◌≤◌}
+use Prim.Native.Nat.{ℕ, zero, suc, ◌+◌, ◌-◌, ◌<◌, ◌≤◌}
 use mathlib.Core.Bool.{Bool, true, false, cond}
-use mathlib.Core.List.{List, [], ◌∷◌}
+use mathlib.Core.List.{List, [], ◌∷◌, ◌++◌, append_assoc}
 use mathlib.Core.Path.{◌≡◌, refl, ap, sym, ◌∙◌}
-use native.Mathlib.Nat.{add_assoc}
 use native.Mathlib.Numerals.{add-one}
 use native.Mathlib.Omega.{arith}
-use borrow.Author.Tests.{le-leb, lt-leb, leb-true, leb-false}
+use borrow.Author.Tests.{le-leb, ltb-true, ltb-false}
 use denote.Ref.{Bor}
-use lib.Dec.{leb}
-use lib.ListN.{length, get_or, take, drop, length-drop}
-use lib.Seq.{drop-drop}
-use Rattle.text.specs.Bytes.{same, position_of}
-use Rattle.text.specs.Text.{bytes}
-use Rattle.text.specs.Part.{Lies, rest_start}
-use Rattle.text.proofs.ByteLaws.{position_le}
-use Rattle.page.specs.Page.{Page, appended}
-use Rattle.page.proofs.PageLaws.{appended_both}
-use Rattle.words.specs.Words.{before_first, behind_first, tail_start, next_place, digit_value, byte_of, bytes_of, piece_bytes, repeated}
+use lib.Dec.{ltb}
+use lib.ListN.{length, take, drop, length-drop, drop_of_length-le}
+use Rattle.std.specs.Prelude.{Some, None}
+use Rattle.std.proofs.Common.{append-nil}
+use Rattle.frame.specs.Every.{within}
+use Rattle.text.specs.Bytes.{position_of}
+use Rattle.text.specs.Part.{Lies}
+use Rattle.page.specs.declared.Page.{Page}
+use Rattle.page.specs.Lent.{with_text}
+use Rattle.page.proofs.LentLaws.{with_both, with_nothing}
+use Rattle.words.specs.Words.{before_first, behind_first, tail_start, next_place, byte_of, bytes_of, repeated}
 
 -- what stands before the first byte b is the front up to that byte
 pub lies_before : (b : ℕ) {s r : Bor (List ℕ)} {k : ℕ} → k ≡ position_of b s.now → Lies s 0 (take k s.now) r → Lies s 0 (before_first b s.now) r
 unfolding before_first
 lies_before b e front = rw e at front
 
--- what follows the first k bytes and a byte more reaches to the end
-rest_of_rest : (k : ℕ) (s : List ℕ) → k ≤ length s → rest_start k s + rest_start 1 (drop k s) ≡ tail_start s (drop (suc k) s)
-rest_of_rest k s h = rw (le-leb _ _ h) (go (leb 1 (length (drop k s))) refl)
-  where
-    go : (t : Bool) → leb 1 (length (drop k s)) ≡ t → k + cond t 1 0 ≡ tail_start s (drop (suc k) s)
-    go true e = omega (arith, leb-true 1 (length (drop k s)) e, length-drop k s, length-drop (suc k) s)
-    go false e = omega (arith, leb-false 1 (length (drop k s)) e, length-drop k s, length-drop (suc k) s)
-
--- what follows the first byte b is the rest, less a byte, of what that byte begins
-pub lies_behind : (b : ℕ) {s t r : Bor (List ℕ)} {k : ℕ} → k ≡ position_of b s.now → Lies s (rest_start k s.now) (drop k s.now) t
-    → Lies t (rest_start 1 t.now) (drop 1 t.now) r → Lies s (tail_start s.now (behind_first b s.now)) (behind_first b s.now) r
+-- behind the first byte b, where it stands, and nothing where it doesn't
+pub behind_found : (b k : ℕ) (s : List ℕ) → Some k ≡ within (length s) (position_of b s) → (k < length s) × (drop (k + 1) s ≡ behind_first b s)
 unfolding behind_first
-lies_behind b {s} {t} {r} {k} e begun left =
-    let p = position_of b s.now in
-    let place : rest_start k s.now + rest_start 1 t.now ≡ tail_start s.now (drop (suc p) s.now)
-    = rw (begun.bytes, e) (rest_of_rest p s.now (position_le b s.now)) in
-    record {
-      bytes = left.bytes ∙ rw (begun.bytes, e, drop-drop, add-one) refl;
-      address = left.address ∙ rw begun.address (ap (λ (n : ℕ). (s.ref_ptr.0, n)) (add_assoc _ _ _ ∙ ap (λ (n : ℕ). s.ref_ptr.1 + n) place));
-    }
+behind_found b k s = go (ltb (position_of b s) (length s)) refl
+  where
+    go : (t : Bool) → ltb (position_of b s) (length s) ≡ t → Some k ≡ cond t (Some (position_of b s)) None → (k < length s) × (drop (k + 1) s ≡ drop (suc (position_of b s)) s)
+    go true l e = let same : k ≡ position_of b s = cc in (rw same (ltb-true _ _ l), rw (same, add-one) refl)
+    go false l e = absurd (cc)
+
+pub behind_none : (b : ℕ) (s : List ℕ) → None ≡ within (length s) (position_of b s) → drop (length s) s ≡ behind_first b s
+unfolding behind_first
+behind_none b s = go (ltb (position_of b s) (length s)) refl
+  where
+    go : (t : Bool) → ltb (position_of b s) (length s) ≡ t → None ≡ cond t (Some (position_of b s)) None → drop (length s) s ≡ drop (suc (position_of b s)) s
+    go true l e = absurd (cc)
+    go false l e =
+        let past : length s ≤ suc (position_of b s) = omega (arith, ltb-false _ _ l) in
+        drop_of_length-le s (omega arith) ∙ sym (drop_of_length-le s past)
+
+-- it reaches to the end
+pub lies_behind : (b k : ℕ) {s r : Bor (List ℕ)} → k ≤ length s.now → drop k s.now ≡ behind_first b s.now → r.now ≡ drop k s.now
+    → r.ref_ptr ≡ (s.ref_ptr.0, s.ref_ptr.1 + k) → Lies s (tail_start s.now (behind_first b s.now)) (behind_first b s.now) r
+lies_behind b k {s} h e bytes address =
+    let place : k ≡ tail_start s.now (behind_first b s.now) = omega (arith, ap length e, length-drop k s.now) in
+    record { bytes = bytes ∙ e; address = address ∙ ap (λ (n : ℕ). (s.ref_ptr.0, s.ref_ptr.1 + n)) place }
 
 module _ (b at : ℕ) (s : List ℕ) where
   length_behind : length (behind_first b (drop at s)) ≡ (length s - at) - suc (position_of b (drop at s))
@@ -60,21 +65,16 @@ pub next_less : (b : ℕ) (s : List ℕ) {at r : ℕ} → r ≡ next_place b at 
 unfolding next_place
 next_less b s {at} e h = omega (arith, e, length_behind b at s)
 
--- the byte of two digits that are there, and of fewer
-pub byte_there : (s : List ℕ) → 2 ≤ length s → digit_value (get_or s 0 0) * 16 + digit_value (get_or s 1 0) ≡ byte_of s
-unfolding byte_of
-byte_there s h = rw (le-leb 2 (length s) h) refl
-
-pub byte_short : (s : List ℕ) → length s < 2 → 0 ≡ byte_of s
-unfolding byte_of
-byte_short s h = rw (lt-leb 2 (length s) h) refl
-
--- two digits more, and none
+-- what a loop knows that writes the bytes of digits one by one: what is still to be written are those of the digits that are left
 two_digits : (s : List ℕ) → 2 ≤ length s → bytes_of s ≡ byte_of s ∷ bytes_of (drop 2 s)
-unfolding bytes_of
+unfolding bytes_of byte_of
 two_digits [] h = absurd (omega arith)
 two_digits (x ∷ []) h = absurd (omega arith)
-two_digits (x ∷ (y ∷ s)) h = ap (λ (b : ℕ). b ∷ bytes_of s) (byte_there (x ∷ (y ∷ s)) h)
+two_digits (x ∷ (y ∷ s)) h = rw (le-leb 2 (length (x ∷ (y ∷ s))) h) refl
+
+pub bytes_more : (s t : List ℕ) (q : Page) {p r : Page} {b : ℕ} → 2 ≤ length s → with_text q (bytes_of s) ≡ p → b ≡ byte_of s
+    → r ≡ with_text q (b ∷ []) → t ≡ drop 2 s → with_text r (bytes_of t) ≡ p
+bytes_more s t q h e d f l = rw (f, l) (with_both q _ _ ∙ ap (with_text q) (rw d (sym (two_digits s h))) ∙ e)
 
 no_digits : (s : List ℕ) → length s < 2 → bytes_of s ≡ []
 unfolding bytes_of
@@ -82,40 +82,14 @@ no_digits [] h = refl
 no_digits (x ∷ []) h = refl
 no_digits (x ∷ (y ∷ s)) h = absurd (omega arith)
 
--- what a loop knows that writes the bytes of digits one by one: what is still to be written are those of the rest, from place i
-module _ (hex : List ℕ) (i : ℕ) (q : Page) {p : Page} (e : appended q (bytes_of (drop i hex)) ≡ p) where
-  pub bytes_more : {b : ℕ} {r : Page} → 2 ≤ length hex - i → b ≡ byte_of (drop i hex) → r ≡ appended q (b ∷ [])
-      → appended r (bytes_of (drop (i + 2) hex)) ≡ p
-  unfolding appended
-  bytes_more {b} {r} h d a =
-      let more : b ∷ bytes_of (drop (i + 2) hex) ≡ bytes_of (drop i hex)
-      = rw (d, ← drop-drop 2 i hex) (sym (two_digits (drop i hex) (rw length-drop h))) in
-      rw a (appended_both q (b ∷ []) (bytes_of (drop (i + 2) hex)) ∙ ap (appended q) more ∙ e)
+pub bytes_done : (s : List ℕ) (q : Page) {p : Page} → length s < 2 → with_text q (bytes_of s) ≡ p → q ≡ p
+bytes_done s q h e = sym (with_nothing q) ∙ ap (with_text q) (sym (no_digits s h)) ∙ e
 
-  pub bytes_done : length hex - i < 2 → q ≡ p
-  unfolding appended
-  bytes_done h = ap (appended q) (sym (no_digits (drop i hex) (rw length-drop h))) ∙ e
-
--- a piece behind %, and any other
-module _ (s : List ℕ) {first : List ℕ} {b : Bool} (f : first ≡ take 1 s) (e : b ≡ same first (bytes "%")) where
-  pub piece_digits : b ≡ true → bytes_of (drop 1 s) ≡ piece_bytes s
-  unfolding piece_bytes
-  piece_digits t = rw (← f, ← e, t) refl
-
-  pub piece_itself : b ≡ false → s ≡ piece_bytes s
-  unfolding piece_bytes
-  piece_itself t = rw (← f, ← e, t) refl
-
--- what a loop knows that writes a text so many times
-pub repeated_more : (t : List ℕ) (n : ℕ) (q : Page) {p r : Page} → 0 < n → appended q (repeated n t) ≡ p → r ≡ appended q t
-    → appended r (repeated (n - 1) t) ≡ p
+-- a text once more
+pub repeated_more : (n : ℕ) (t : List ℕ) → repeated n t ++ t ≡ repeated (n + 1) t
 unfolding repeated
-repeated_more t zero q h e a = absurd (omega arith)
-repeated_more t (suc n) q h e a =
-    let less : suc n - 1 ≡ n = omega arith in
-    rw (a, less) (appended_both q t (repeated n t) ∙ e)
-
-pub repeated_done : (t : List ℕ) (n : ℕ) (q : Page) {p : Page} → n ≤ 0 → appended q (repeated n t) ≡ p → q ≡ p
-unfolding repeated appended
-repeated_done t zero q h e = e
-repeated_done t (suc n) q h e = absurd (omega arith)
+repeated_more n t = rw (add-one n) (go n)
+  where
+    go : (n : ℕ) → repeated n t ++ t ≡ t ++ repeated n t
+    go zero = sym (append-nil t)
+    go (suc n) = rw append_assoc (ap (λ (x : List ℕ). t ++ x) (go n))

@@ -1,17 +1,11 @@
-use borrow.Author.Rules.{rules}
-use mathlib.Core.Path.{refl, ◌∙◌, ap}
-use Rattle.words.specs.Words.{byte_of}
+use Rattle.text.proofs.ByteLaws.{take_rest}
 use Rattle.words.proofs.LineLaws.{bytes_more, bytes_done}
 use Rattle.words.proofs.append_hex.Goals as goal
 
-pub loop-i-init : goal.loop-i-init
-loop-i-init c = (refl, search rules, refl)
-
-pub loop-i-preserved : goal.loop-i-preserved
-loop-i-preserved c =
-    let kept = c.loop-i in
-    let byte = c.hex_byte.ensures ∙ ap byte_of c.rest.ensures.bytes in
-    (search rules, search rules, bytes_more _ kept.i _ kept.invariant.2 c.loop-i-test.true byte c.append-end.ensures)
+pub loop-left-preserved : goal.loop-left-preserved
+loop-left-preserved c =
+    let l = c.loop-left in
+    bytes_more l.left.now _ l.page c.in-len2-up.len_at_least l.invariant c.hex_byte.ensures c.append.ensures (take_rest 2 l.left.now)
 
 pub returns : goal.returns
-returns c = bytes_done _ c.loop-i.i _ c.loop-i.invariant.2 c.loop-i-test.false
+returns c = bytes_done c.loop-left.left.now _ c.in_default.len_below c.loop-left.invariant

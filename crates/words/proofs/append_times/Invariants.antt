@@ -1,12 +1,7 @@
 use mathlib.Core.Path.{◌≡◌}
-use lib.ListN.{length}
-use Rattle.page.specs.Page.{page, appended}
+use Rattle.page.specs.Lent.{with_text}
 use Rattle.words.specs.Words.{piece_bytes, repeated}
 use Rattle.words.proofs.append_times.Given as goal
 
-abbrev pub invariant-loop-left : goal.invariant-loop-left
-invariant-loop-left l =
-    (length l.out ≡ length l.initial.out) × (appended (page l.out l.end) (repeated l.left (piece_bytes l.piece)) ≡ appended (page l.initial.out l.at) (repeated l.times (piece_bytes l.piece)))
-
-abbrev pub decreases-loop-left : goal.decreases-loop-left
-decreases-loop-left l = l.left
+abbrev pub invariant-loop : goal.invariant-loop
+invariant-loop l = l.page ≡ with_text l.initial.page (repeated l.counter (piece_bytes l.piece))
