@@ -1,7 +1,0 @@
-use mathlib.Core.Path.{refl}
-use Rattle.calendar.specs.Calendar.{real_second}
-use Rattle.calendar.proofs.is_real_second.Goals as goal
-
-pub returns : goal.returns
-unfolding real_second
-returns c = rw (c.two_at-3.ensures, c.two_at-2.ensures, c.two_at.ensures, c.is_digits.ensures) refl
