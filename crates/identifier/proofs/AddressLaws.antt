@@ -12,6 +12,7 @@ use lib.Seq.{take_at, drop_at}
 use Rattle.frame.proofs.BoolLaws.{and_true}
 use Rattle.text.specs.Bytes.{same}
 use Rattle.text.specs.Text.{bytes}
+use Rattle.text.proofs.SameLaws.{eq_same}
 use Rattle.text.proofs.ByteLaws.{same_refl, same_sym, same_split, same_apart}
 use Rattle.identifier.specs.Identifier.{completed, same_address}
 
@@ -63,3 +64,8 @@ module _ (s t : List ℕ) where
   pub address_none_short : (length s ≡ length t → ⊥) → (length s ≡ 8 → ⊥) → (length t ≡ 8 → ⊥) → false ≡ same_address s t
   unfolding same_address
   address_none_short n m k = rw (completed_other s m, completed_other t k) (same_apart length s t n)
+
+-- what the proofs of the functions cite
+pub ruleset completion_laws = (eq_same, same_sym, completion_parts, completion_length)
+
+pub ruleset address_laws = (eq_same, address_equal_lengths, address_first_short, address_second_short, address_none_short)

@@ -181,3 +181,12 @@ unfolding check_digit_right
 check_digit s {n} p q r e =
     let last : n % 10 ≡ digit_sum (take 11 s) % 10 = rw (p, q, letter_sum_lem) (omega arith) in
     ap (λ (k : ℕ). eqb k 0) (ends_alike n (digit_sum (take 11 s)) _ last) ∙ rw (r, e) refl
+
+-- what the proofs of the functions cite
+pub ruleset weight_laws = (weight_doubled, weight_single)
+
+pub ruleset capital_laws = (capital_doubled, capital_single)
+
+pub ruleset letter_laws = (capital_low, capital_high, capital_value)
+
+pub ruleset check_laws = (check_digit)

@@ -11,6 +11,7 @@ ghost use Rattle.identifier.specs.Isin.{letter_value, value_weight, letter_sum};
 use text::Class;
 
 // Whether s is a bank code.
+#[tactic(auto, unfolding(crate::specs::Identifier::bank_code))]
 pub fn is_bank_code(s: &[u8]) -> bool
     ensures { result ≡ bank_code s.now }
 {
@@ -18,39 +19,44 @@ pub fn is_bank_code(s: &[u8]) -> bool
 }
 
 // Whether s has SWIFT form.
+#[tactic(auto, unfolding(crate::specs::Identifier::swift_form))]
 pub fn is_swift(s: &[u8]) -> bool
     ensures { result ≡ swift_form s.now }
 {
     ((s.len() == 8) | (s.len() == 11))
-        && (text::all(Class::Capital, text::front(s, 6))
-            & text::all(Class::CapitalOrDigit, text::rest(s, 6)))
+        && (text::all(Class::Capital, &s[..6])
+            & text::all(Class::CapitalOrDigit, &s[6..]))
 }
 
 // Whether t is s, an address of eight bytes, with XXX added.
-fn is_completion<'a>(s: &'a [u8], t: &'a [u8]) -> bool
+#[tactic(auto, using(crate::proofs::AddressLaws::completion_laws))]
+fn is_completion(s: &[u8], t: &[u8]) -> bool
     requires { length s.now ≡ 8 }
     ensures { result ≡ same (s.now ++ bytes "XXX") t.now }
 {
-    t.len() == 11 && (text::same(s, text::front(t, 8)) & text::same(b"XXX", text::rest(t, 8)))
+    if t.len() != 11 {
+        return false;
+    }
+    let (address, added) = t.split_at(8);
+    (s == address) & (added == b"XXX".as_slice())
 }
 
 // Whether two addresses are the same, eight bytes meaning the same with XXX added.
-pub fn same_address<'a>(s: &'a [u8], t: &'a [u8]) -> bool
+#[tactic(auto, using(crate::proofs::AddressLaws::address_laws))]
+pub fn same_address(s: &[u8], t: &[u8]) -> bool
     ensures { result ≡ same_address s.now t.now }
 {
     if s.len() == t.len() {
-        return text::same(s, t);
+        s == t
+    } else if s.len() == 8 {
+        is_completion(s, t)
+    } else {
+        t.len() == 8 && is_completion(t, s)
     }
-    if s.len() == 8 {
-        return is_completion(s, t);
-    }
-    if t.len() == 8 {
-        return is_completion(t, s);
-    }
-    false
 }
 
 // Whether s is a name of at most so many bytes.
+#[tactic(auto, unfolding(crate::specs::Identifier::name_up_to))]
 pub fn is_name(s: &[u8], most: usize) -> bool
     ensures { result ≡ name_up_to most s.now }
 {
@@ -58,26 +64,30 @@ pub fn is_name(s: &[u8], most: usize) -> bool
 }
 
 // Whether s has ISIN form.
+#[tactic(auto, unfolding(crate::specs::Isin::isin_form))]
 pub fn is_isin_form(s: &[u8]) -> bool
     ensures { result ≡ isin_form s.now }
 {
     s.len() == 12
-        && (text::all(Class::Capital, text::front(s, 2))
-            & text::all(Class::CapitalOrDigit, text::front(text::rest(s, 2), 9))
-            & text::all(Class::Digit, text::rest(s, 11)))
+        && (text::all(Class::Capital, &s[..2])
+            & text::all(Class::CapitalOrDigit, &s[2..11])
+            & text::all(Class::Digit, &s[11..]))
 }
 
 // The value of a digit or a letter.
+#[tactic(auto, using(text::proofs::ByteLaws::digit_low), unfolding(crate::specs::Isin::letter_value))]
 fn value_of(b: u8) -> u64
     ensures { (result ≡ letter_value b) × (result ≤ 255) }
 {
     if text::belongs(Class::Digit, b) {
-        return (b - b'0') as u64;
+        u64::from(b - b'0')
+    } else {
+        u64::from(b.saturating_sub(b'A')) + 10
     }
-    if b < b'A' { 10 } else { (b - b'A') as u64 + 10 }
 }
 
 // What a value adds to the sum, up to a multiple of 10: a doubled digit d then adds 2 * d + d / 5.
+#[tactic(auto, using(crate::proofs::IsinLaws::weight_laws))]
 fn weight(double: bool, v: u64) -> u64
     requires { v ≤ 255 }
     ensures { (result % 10 ≡ value_weight double v % 10) × (result ≤ 600) }
@@ -90,6 +100,7 @@ fn weight(double: bool, v: u64) -> u64
 }
 
 // The same for the capital b, whose value is b - 55, in fewer steps.
+#[tactic(auto, using(crate::proofs::IsinLaws::capital_laws))]
 fn capital_weight(double: bool, b: u64) -> u64
     requires { (65 ≤ b) × (b ≤ 90) }
     ensures { (result % 10 ≡ value_weight double (b - 55) % 10) × (result ≤ 600) }
@@ -102,13 +113,15 @@ fn capital_weight(double: bool, b: u64) -> u64
 }
 
 // The same for the value of a letter, or of another byte.
+#[tactic(auto, using(crate::proofs::IsinLaws::letter_laws))]
 fn letter_weight(double: bool, b: u8) -> u64
     ensures { (result % 10 ≡ value_weight double (letter_value b) % 10) × (result ≤ 600) }
 {
-    if !text::belongs(Class::Capital, b) {
-        return weight(double, value_of(b));
+    if text::belongs(Class::Capital, b) {
+        capital_weight(double, u64::from(b))
+    } else {
+        weight(double, value_of(b))
     }
-    capital_weight(double, b as u64)
 }
 
 // The last three digits of a sum.
@@ -140,18 +153,12 @@ pub fn letter_sum(s: &[u8]) -> u64
     total % 10
 }
 
-// The byte at i; 0 where s ends before it.
-fn byte_at(s: &[u8], i: usize) -> u8
-    ensures { result ≡ get_or s.now i 0 }
-{
-    if i < s.len() { s[i] } else { 0 }
-}
-
 // Whether the check digit of s is right.
+#[tactic(auto, using(crate::proofs::IsinLaws::check_laws))]
 pub fn is_check_digit_right(s: &[u8]) -> bool
     ensures { result ≡ check_digit_right s.now }
 {
-    (letter_sum(text::front(s, 11)) + value_of(byte_at(s, 11))) % 10 == 0
+    (letter_sum(text::front(s, 11)) + value_of(s.get(11).copied().unwrap_or(0))) % 10 == 0
 }
 
 // Whether s is a valid ISIN.
