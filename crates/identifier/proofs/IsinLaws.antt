@@ -148,31 +148,28 @@ ends_alike m n t e = last m ∙ rw e (sym (last n))
     last : (k : ℕ) → (k + t) % 10 ≡ (k % 10 + t) % 10
     last k = omega arith
 
--- what the walk keeps, n being its total and i the count of letters left: the sum over these, added to n, has the last digit of the whole
+-- what the walk keeps, n being its total: the sum over the letters that are left, added to n, has the last digit of the whole
 kept : (n m w t : ℕ) → m % 10 ≡ w % 10 → (n + (w + t)) % 10 ≡ ((n + m) % 1000 + t) % 10
 kept n m w t e =
     let first : n + (w + t) ≡ w + (n + t) = omega arith in
     let then : m + (n + t) ≡ n + m + t = omega arith in
     rw first (ends_alike w m (n + t) (sym e) ∙ rw then (ends_alike (n + m) ((n + m) % 1000) t (omega arith)))
 
-pub sum_start : (s : List ℕ) → letter_sum s % 10 ≡ (0 + letters_from true (reverse (take (length s) s))) % 10
+pub sum_start : (s left : List ℕ) → left ≡ s → letter_sum s % 10 ≡ (0 + letters_from true (reverse left)) % 10
 unfolding letter_sum
-sum_start s = rw take-length (omega arith)
+sum_start s left e = rw e (omega arith)
 
-pub sum_more : (s : List ℕ) (f : Bool) (i n m : ℕ) {r : ℕ} {g : Bool} → letter_sum s % 10 ≡ (n + letters_from f (reverse (take i s))) % 10
-    → 0 < i → i ≤ length s → m % 10 ≡ value_weight f (letter_value (get_or s (i - 1) 0)) % 10 → r ≡ (n + m) % 1000 → g ≡ turned f (get_or s (i - 1) 0)
-    → letter_sum s % 10 ≡ (r + letters_from g (reverse (take (i - 1) s))) % 10
+pub sum_more : (s left rest : List ℕ) (f : Bool) (b n m : ℕ) {r : ℕ} {g : Bool} → letter_sum s % 10 ≡ (n + letters_from f (reverse left)) % 10
+    → left ≡ rest ++ (b ∷ []) → m % 10 ≡ value_weight f (letter_value b) % 10 → r ≡ (n + m) % 1000 → g ≡ turned f b
+    → letter_sum s % 10 ≡ (r + letters_from g (reverse rest)) % 10
 unfolding letters_from
-sum_more s f zero n m e h l p k q = absurd (not-suc-le-zero h)
-sum_more s f (suc j) n m e h l p k q =
-    let weight = rw sub-one at p in
-    let flag = rw sub-one at q in
-    e ∙ rw (sub-one, take-suc s j 0 l, reverse-append, k, flag) (kept n m _ _ weight)
+sum_more s left rest f b n m e last weight k flag = e ∙ rw (last, reverse-append, k, flag) (kept n m _ _ weight)
 
-pub sum_end : (s : List ℕ) (f : Bool) (i n : ℕ) → letter_sum s % 10 ≡ (n + letters_from f (reverse (take i s))) % 10 → i ≤ 0 → n % 10 ≡ letter_sum s % 10
+pub sum_end : (s left : List ℕ) (f : Bool) (n : ℕ) → letter_sum s % 10 ≡ (n + letters_from f (reverse left)) % 10 → length left ≡ 0
+    → n % 10 ≡ letter_sum s % 10
 unfolding letters_from
-sum_end s f zero n e h = omega (arith, e)
-sum_end s f (suc i) n e h = absurd (not-suc-le-zero h)
+sum_end s [] f n e h = omega (arith, e)
+sum_end s (b ∷ left) f n e h = absurd (omega arith)
 
 -- the check digit by the last digit of the sum
 pub check_digit : (s : List ℕ) {n v b : ℕ} {t : List ℕ} → n ≡ letter_sum t % 10 → t ≡ take 11 s → v ≡ letter_value b → b ≡ get_or s 11 0

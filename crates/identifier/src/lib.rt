@@ -23,7 +23,7 @@ pub fn is_bank_code(s: &[u8]) -> bool
 pub fn is_swift(s: &[u8]) -> bool
     ensures { result ≡ swift_form s.now }
 {
-    ((s.len() == 8) | (s.len() == 11))
+    matches!(s.len(), 8 | 11)
         && (text::all(Class::Capital, &s[..6])
             & text::all(Class::CapitalOrDigit, &s[6..]))
 }
@@ -100,6 +100,7 @@ fn weight(double: bool, v: u64) -> u64
 }
 
 // The same for the capital b, whose value is b - 55, in fewer steps.
+// As it is: by `weight` alone a capital of a record's ISIN takes a division more (docs/DECISIONS.md, under `capital_weight`).
 #[tactic(auto, using(crate::proofs::IsinLaws::capital_laws))]
 fn capital_weight(double: bool, b: u64) -> u64
     requires { (65 ≤ b) × (b ≤ 90) }
@@ -138,16 +139,13 @@ pub fn letter_sum(s: &[u8]) -> u64
     ensures { result ≡ letter_sum s.now % 10 }
 {
     let mut double = true;
-    let mut total: u64 = 0;
-    let mut i = s.len();
-    while 0 < i {
-        i -= 1;
-        let b = s[i];
-        if text::belongs(Class::Digit, b) {
-            total = last_digits(total + weight(double, value_of(b)));
+    let mut total = 0;
+    for b in s.iter().rev() {
+        if text::belongs(Class::Digit, *b) {
+            total = last_digits(total + weight(double, value_of(*b)));
             double = !double;
         } else {
-            total = last_digits(total + letter_weight(double, b));
+            total = last_digits(total + letter_weight(double, *b));
         }
     }
     total % 10
