@@ -345,3 +345,6 @@ module _ (t : List ℕ) (n : ℕ) (low : 1 ≤ n) (high : n ≤ text_count t) wh
       ∙ ap (take r) text_lent
       ∙ ap (λ (m : ℕ). take m (drop text_code_size (text_row t (n - 1)))) (e ∙ ap trimmed text_lent)
       ∙ text_there
+
+-- what the length of a text is proved by
+pub ruleset trimming = (trimmed_all, trimmed_stop, trimmed_go, trimmed_end)

@@ -29,12 +29,26 @@ pub const BLANK: u16 = 1;
 
 const MEMBER_BASE: u16 = 10001;
 
+// The list of texts of the member, and ours.
+#[derive(Clone, Copy)]
+pub struct Lists<'a> {
+    pub member: &'a [u8],
+    pub ours: &'a [u8],
+}
+
+// Two lists, and an index of them.
+#[derive(Clone, Copy)]
+pub struct Index<'a, 'r> {
+    pub lists: Lists<'a>,
+    pub rows: &'r [u16; INDEX_SIZE],
+}
+
 // A digit as a number.
 fn digit(b: u8) -> u16
     requires { is_digit b ≡ true }
     ensures { (result ≡ b - 48) × (result ≤ 9) }
 {
-    b as u16 - 48
+    u16::from(b - b'0')
 }
 
 // The code of a row that begins with four digits.
@@ -43,7 +57,7 @@ fn code_of(w: &[u8]) -> usize
     ensures { (result ≡ text_code w.now) × (result < code_count) }
 {
     let code = digit(w[0]) * 1000 + digit(w[1]) * 100 + digit(w[2]) * 10 + digit(w[3]);
-    code as usize
+    usize::from(code)
 }
 
 // Enters the rows of a list, whose bytes are all bytes of texts, in the index, counted on from a base; false where one begins with other than four
@@ -54,12 +68,9 @@ fn enter_rows(t: &[u8], base: u16, rows: &mut [u16]) -> bool
         × (length rows.new ≡ index_size)
         × (result ≡ true → Entered base (text_count t.now) t.now rows.old rows.new) }
 {
-    let count = t.len() / ROW_SIZE;
-    let mut k: usize = 0;
-    while k < count {
+    for k in 0..t.len() / ROW_SIZE {
         let start = k * ROW_SIZE;
-        let end = start + ROW_SIZE;
-        let w = &t[start..end];
+        let w = &t[start..start + ROW_SIZE];
         if !text::all(Class::Digit, text::front(w, CODE_SIZE)) {
             return false;
         }
@@ -67,8 +78,7 @@ fn enter_rows(t: &[u8], base: u16, rows: &mut [u16]) -> bool
         if base < rows[code] {
             return false;
         }
-        k += 1;
-        rows[code] = base + k as u16;
+        rows[code] = base + (k + 1) as u16;
     }
     true
 }
@@ -97,71 +107,86 @@ fn blank(rows: &mut [u16])
     requires { length rows.old ≡ index_size }
     ensures { rows.new ≡ blank_index }
 {
-    let mut i = 0;
-    while i < rows.len() {
-        rows[i] = BLANK;
-        i += 1;
-    }
+    rows.fill(BLANK);
 }
 
-// Enters both lists in a blank index; it is blank again where one of them is not of its form or has a code twice.
-fn fill<'a>(member: &'a [u8], ours: &'a [u8], rows: &mut [u16])
-    requires { rows.old ≡ blank_index }
-    ensures { rows.new ≡ index_of member.now ours.now }
-{
-    if !enter(ours, BLANK, rows) {
+impl<'a> Lists<'a> {
+    // Enters both lists in a blank index; it is blank again where one of them is not of its form or has a code twice.
+    fn fill(&self, rows: &mut [u16])
+        requires { rows.old ≡ blank_index }
+        ensures { rows.new ≡ index_of self.now.member.now self.now.ours.now }
+    {
+        if !enter(self.ours, BLANK, rows) {
+            blank(rows);
+            return;
+        }
+        if !enter(self.member, MEMBER_BASE, rows) {
+            blank(rows);
+            return;
+        }
+        rows[CODE_COUNT] = 2;
+    }
+
+    // Makes the index of both lists: blank where one of them is not of its form or has a code twice.
+    pub fn index(&self, rows: &mut [u16; INDEX_SIZE])
+        ensures { rows.new ≡ index_of self.now.member.now self.now.ours.now }
+    {
         blank(rows);
-        return;
+        self.fill(rows);
     }
-    if !enter(member, MEMBER_BASE, rows) {
-        blank(rows);
-        return;
+}
+
+impl<'a> Index<'a, '_> {
+    // Whether both lists are of their form.
+    pub fn is_listed(&self) -> bool
+        ensures { result ≡ is_listed self.now.rows.now }
+    {
+        BLANK < self.rows[CODE_COUNT]
     }
-    rows[CODE_COUNT] = 2;
-}
 
-// Makes the index of the member's list and ours: blank where one of them is not of its form or has a code twice.
-pub fn index<'a>(member: &'a [u8], ours: &'a [u8], rows: &mut [u16; INDEX_SIZE])
-    ensures { rows.new ≡ index_of member.now ours.now }
-{
-    blank(rows);
-    fill(member, ours, rows);
-}
+    // The entry of a code; blank where it has more than four digits.
+    #[tactic(auto, using(crate::proofs::IndexLaws::entry_within, crate::proofs::IndexLaws::entry_beyond))]
+    fn entry(&self, code: u16) -> u16
+        ensures { result ≡ entry_in self.now.rows.now code }
+    {
+        let k = usize::from(code);
+        if k < CODE_COUNT { self.rows[k] } else { BLANK }
+    }
 
-// Whether both lists are of their form, by their index.
-pub fn is_listed(rows: &[u16; INDEX_SIZE]) -> bool
-    ensures { result ≡ is_listed rows.now }
-{
-    BLANK < rows[CODE_COUNT]
-}
+    // Whether one of the lists holds a code.
+    pub fn holds(&self, code: u16) -> bool
+        ensures { result ≡ names_row self.now.rows.now code }
+    {
+        BLANK < self.entry(code)
+    }
 
-// The entry of a code in an index; blank where it has more than four digits.
-fn entry(rows: &[u16; INDEX_SIZE], code: u16) -> u16
-    ensures { result ≡ entry_in rows.now code }
-{
-    let k = code as usize;
-    if k < CODE_COUNT { rows[k] } else { BLANK }
-}
-
-// Whether one of the lists holds a code, by their index.
-pub fn holds(rows: &[u16; INDEX_SIZE], code: u16) -> bool
-    ensures { result ≡ names_row rows.now code }
-{
-    BLANK < entry(rows, code)
+    // The text of a code, handed out as a part of the list that the index names.
+    #[tactic(auto, using(crate::proofs::HandedLaws::by_member, crate::proofs::HandedLaws::by_ours, crate::proofs::HandedLaws::by_none))]
+    pub fn text_of(&self, code: u16) -> &'a [u8]
+        ensures { HandedBy (entry_in self.now.rows.now code) self.now.lists.member self.now.lists.ours result }
+    {
+        let n = self.entry(code);
+        if MEMBER_BASE < n {
+            return text_at(self.lists.member, usize::from(n - MEMBER_BASE));
+        }
+        if BLANK < n {
+            return text_at(self.lists.ours, usize::from(n - BLANK));
+        }
+        text_at(self.lists.ours, 0)
+    }
 }
 
 // How long a text is without its trailing spaces.
+#[tactic(auto, using(crate::proofs::TextLaws::trimming))]
 fn length_of(w: &[u8]) -> usize
     ensures { result ≡ trimmed w.now }
 {
-    let mut n = w.len();
-    while 0 < n {
-        if w[n - 1] != b' ' {
-            return n;
+    for n in (0..w.len()).rev() {
+        if w[n] != b' ' {
+            return n + 1;
         }
-        n -= 1;
     }
-    n
+    0
 }
 
 // The text of row n, counted from 1, as a part of the list; the empty part at its start where there is no such row.
@@ -178,23 +203,4 @@ fn text_at(t: &[u8], n: usize) -> &[u8]
     let start = end - ROW_SIZE + CODE_SIZE;
     let text_end = start + length_of(&t[start..end]);
     &t[start..text_end]
-}
-
-// The text of a code, handed out as a part of the list that the index names.
-pub fn text_of<'a>(
-    member: &'a [u8],
-    ours: &'a [u8],
-    rows: &[u16; INDEX_SIZE],
-    code: u16,
-) -> &'a [u8]
-    ensures { HandedBy (entry_in rows.now code) member.entry ours.entry result }
-{
-    let n = entry(rows, code);
-    if MEMBER_BASE < n {
-        return text_at(member, (n - MEMBER_BASE) as usize);
-    }
-    if BLANK < n {
-        return text_at(ours, (n - BLANK) as usize);
-    }
-    text_at(ours, 0)
 }

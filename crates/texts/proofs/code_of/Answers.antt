@@ -1,4 +1,5 @@
 use native.Mathlib.Omega.{arith}
+use mathlib.Core.Path.{◌∙◌}
 use Rattle.texts.proofs.TextLaws.{code_digit, code_value}
 use Rattle.texts.proofs.code_of.Goals as goal
 
@@ -20,4 +21,4 @@ digit-requires-4 c =
 
 pub returns : goal.returns
 returns c =
-    (code_value c.args.w.now (omega (arith, c.requires.0)) c.digit.ensures.0 c.digit-2.ensures.0 c.digit-3.ensures.0 c.digit-4.ensures.0, omega (arith, c.digit.ensures.1, c.digit-2.ensures.1, c.digit-3.ensures.1, c.digit-4.ensures.1))
+    (c.from.ensures ∙ code_value c.args.w.now (omega (arith, c.requires.0)) c.digit.ensures.0 c.digit-2.ensures.0 c.digit-3.ensures.0 c.digit-4.ensures.0, omega (arith, c.from.ensures, c.digit.ensures.1, c.digit-2.ensures.1, c.digit-3.ensures.1, c.digit-4.ensures.1))

@@ -2,7 +2,7 @@ use mathlib.Core.Path.{sym, ◌∙◌}
 use Prim.Native.Nat.{ℕ}
 use lib.ListN.{length-set}
 use Rattle.texts.proofs.IndexLaws.{open_blank, open_ours, index_broken, ours_broken, member_broken, index_filled}
-use Rattle.texts.proofs.fill.Goals as goal
+use Rattle.texts.proofs.Lists.fill.Goals as goal
 
 pub enter-requires : goal.enter-requires
 enter-requires c = open_blank _ c.requires
