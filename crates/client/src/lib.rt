@@ -16,19 +16,19 @@ fn lacks_form(kind: &[u8], f: &[u8]) -> bool
 }
 
 // Whether two identifications of one kind are the same.
-#[tactic(auto, unfolding(crate::specs::Client::same_party))]
+#[tactic(auto, using(text::proofs::SameLaws::eq_same), unfolding(crate::specs::Client::same_party))]
 fn same_party(kind: &[u8], f: &[u8], g: &[u8]) -> bool
     ensures { result ≡ same_party kind.now f.now g.now }
 {
     if fields::letter_of(kind) == b'S' {
         identifier::same_address(f, g)
     } else {
-        text::same(f, g)
+        f == g
     }
 }
 
 // Whether each of places 7 to 17 fails.
-#[tactic(auto, unfolding(crate::specs::Client::client_tests))]
+#[tactic(auto, using(text::proofs::SameLaws::eq_same), unfolding(crate::specs::Client::client_tests))]
 pub fn judge(f3: &[u8], f4: &[u8], f5: &[u8], f6: &[u8]) -> [bool; 11]
     ensures { result ≡ client_tests f3.now f4.now f5.now f6.now }
 {
@@ -49,6 +49,6 @@ pub fn judge(f3: &[u8], f4: &[u8], f5: &[u8], f6: &[u8]) -> [bool; 11]
         !blank5 & !((k5 == b'B') | (k5 == b'S') | (k5 == b'N')), // 14 9051
         blank5 & !blank6 | !blank5 & blank6, // 15 9060
         !blank6 & (lacks_form(f5, f6) | (k5 == b'N') & (fields::first_byte(f6) == b'W')), // 16 9061
-        !blank5 & text::same(f3, f5) & same_party(f3, f4, f6), // 17 9062
+        !blank5 & (f3 == f5) & same_party(f3, f4, f6), // 17 9062
     ]
 }

@@ -91,14 +91,14 @@ pub fn judge_capacity(
 }
 
 // Whether each of places 47 to 51 fails.
-#[tactic(auto, unfolding(crate::specs::Derivative::derivative_tests))]
+#[tactic(auto, using(text::proofs::SameLaws::eq_same), unfolding(crate::specs::Derivative::derivative_tests))]
 pub fn judge_derivative(money21: bool, f21: &[u8], f29: &[u8], f30: &[u8], f32: &[u8]) -> [bool; 5]
     ensures { result ≡ derivative_tests money21 f21.now f29.now f30.now f32.now }
 {
-    let xxk = text::same(f21, b"XXK");
-    let xxo = text::same(f21, b"XXO");
-    let xxx = text::same(f21, b"XXX");
-    let xxz = text::same(f21, b"XXZ");
+    let xxk = f21 == b"XXK".as_slice();
+    let xxo = f21 == b"XXO".as_slice();
+    let xxx = f21 == b"XXX".as_slice();
+    let xxz = f21 == b"XXZ".as_slice();
     let k = fields::letter_of(f29);
     [
         (xxk | xxo) & !((k == b'C') | (k == b'P') | (k == b'F')), // 47 0290

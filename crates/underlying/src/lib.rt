@@ -97,29 +97,29 @@ impl Derivative {
 }
 
 // Whether field 21 asks for an underlying.
-#[tactic(auto, unfolding(crate::specs::Underlying::asks_underlying))]
+#[tactic(auto, using(text::proofs::SameLaws::eq_same), unfolding(crate::specs::Underlying::asks_underlying))]
 fn asks_underlying(f21: &[u8]) -> bool
     ensures { result ≡ asks_underlying f21.now }
 {
-    text::same(f21, b"XXK") | text::same(f21, b"XXO") | text::same(f21, b"XXZ")
+    (f21 == b"XXK".as_slice()) | (f21 == b"XXO".as_slice()) | (f21 == b"XXZ".as_slice())
 }
 
 // What follows T: one of the six words, or an unlisted text.
-#[tactic(auto, unfolding(crate::specs::Cases::first_theme))]
+#[tactic(auto, using(text::proofs::SameLaws::eq_same), unfolding(crate::specs::Cases::first_theme))]
 fn theme_of(word: &[u8]) -> Underlying
     ensures { result ≡ theme_of word.now }
 {
-    if text::same(word, b"BASKET") {
+    if word == b"BASKET".as_slice() {
         Underlying::Themed(Theme::Basket)
-    } else if text::same(word, b"COMMODITY") {
+    } else if word == b"COMMODITY".as_slice() {
         Underlying::Themed(Theme::Commodity)
-    } else if text::same(word, b"METAL") {
+    } else if word == b"METAL".as_slice() {
         Underlying::Themed(Theme::Metal)
-    } else if text::same(word, b"NON-METAL") {
+    } else if word == b"NON-METAL".as_slice() {
         Underlying::Themed(Theme::NonMetal)
-    } else if text::same(word, b"INTEREST") {
+    } else if word == b"INTEREST".as_slice() {
         Underlying::Themed(Theme::Interest)
-    } else if text::same(word, b"CURRENCY") {
+    } else if word == b"CURRENCY".as_slice() {
         Underlying::Themed(Theme::Currency)
     } else {
         Underlying::Unlisted
