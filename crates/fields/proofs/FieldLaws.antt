@@ -1,6 +1,6 @@
 -- Laws of the field view and of the index: where the semicolons stand, that a field lies within its record, and that both give the same place.
 -- Assumes nothing.
-use Prim.Native.Nat.{ℕ, zero, suc, ◌+◌, ◌-◌, ◌<◌, ◌≤◌, zero-le}
+use Prim.Native.Nat.{ℕ, zero, suc, ◌+◌, ◌-◌, ◌*◌, ◌/◌, ◌<◌, ◌≤◌, zero-le}
 use Prim.Native.Char.{code}
 use mathlib.Core.Bool.{Bool, true, false, cond}
 use mathlib.Core.List.{List, [], ◌∷◌, ◌++◌, append-nil, append_assoc}
@@ -16,6 +16,9 @@ use lib.ListN.{length, get_or, take, drop, set, replicate, length-append, length
 use lib.ListN.{get_or-append, get_or-replicate}
 use lib.Seq.{drop-cons, drop-drop, take-suc-set, append_snoc, length-take-le, take_all}
 use Rattle.frame.proofs.BoolLaws.{and_false}
+use Rattle.frame.specs.Parts.{part, AreParts}
+use Rattle.frame.proofs.ListLaws.{chunks_parts}
+use Rattle.std.specs.Simd.{first_chunks}
 use Rattle.text.specs.Part.{Lies}
 use Rattle.fields.specs.declared.Place.{Place}
 use Rattle.fields.specs.Fields.{semicolons_from, semicolons, is_whole, field_start, field_end, empty_place, field_place, bytes_at, field_of}
@@ -72,16 +75,33 @@ stops_whole : (s : List ℕ) → is_whole s ≡ true → stops_of s ≡ semicolo
 unfolding stops_of
 stops_whole s w = rw w refl
 
+-- the whole blocks of a record, each with what follows it; and what follows them all
+pub block_rest : (s : List ℕ) (blocks : List (List ℕ)) (k : ℕ) → blocks ≡ first_chunks 16 (length s / 16) s → k < length blocks
+    → (get_or blocks k [] ++ drop ((k + 1) * 16) s ≡ drop (k * 16) s) × (k * 16 + length (get_or blocks k []) ≡ (k + 1) * 16)
+unfolding part
+block_rest s blocks k e h =
+    let parts : AreParts 16 s blocks = rw e (chunks_parts 16 s) in
+    let here : get_or blocks k [] ≡ take 16 (drop (k * 16) s) = parts.each k [] h in
+    let next : k * 16 + 16 ≡ (k + 1) * 16 = omega arith in
+    let inside : 16 ≤ length (drop (k * 16) s) = rw length-drop (omega (arith, parts.count)) in (
+      rw (here, ← next, ← drop-drop 16 (k * 16) s) (take-append-drop 16 (drop (k * 16) s)),
+      rw (here, length-take-le 16 (drop (k * 16) s) inside) next,
+    )
+
+pub last_rest : (s last : List ℕ) (n k : ℕ) → n ≡ length s / 16 → k ≤ n → n ≤ k → last ≡ drop (length s / 16 * 16) s
+    → (last ++ drop (length s) s ≡ drop (k * 16) s) × (k * 16 + length last ≡ length s)
+last_rest s last n k e g h l =
+    let all : length s ≤ length s = omega arith in
+    let here : length s / 16 * 16 ≡ k * 16 = omega arith in
+    (rw (l, here, drop_of_length-le s all) (append-nil _), rw (l, here, length-drop) (omega arith))
+
 -- the laws of the index, which is extended by the block from p to q: behind it, and what the index is where that was too many or the last one
-module _ (s stops later : List ℕ) (found r p q : ℕ) (e : semicolons s ≡ take found stops ++ semicolons_from p (drop p s)) (h : p ≤ q) (k : q ≤ length s)
-    (x : Extended stops found (semicolons_from p (take (q - p) (drop p s))) later r) where
-  block_and_rest : semicolons s ≡ take found stops ++ semicolons_from p (take (q - p) (drop p s)) ++ semicolons_from q (drop q s)
+module _ (s stops block later : List ℕ) (found r p q : ℕ) (e : semicolons s ≡ take found stops ++ semicolons_from p (drop p s))
+    (b : (block ++ drop q s ≡ drop p s) × (p + length block ≡ q)) (x : Extended stops found (semicolons_from p block) later r) where
+  block_and_rest : semicolons s ≡ take found stops ++ semicolons_from p block ++ semicolons_from q (drop q s)
   block_and_rest =
-      let next : p + (q - p) ≡ q = omega arith in
-      let inside : length (take (q - p) (drop p s)) ≡ q - p = length-take-le (q - p) (drop p s) (rw length-drop (omega arith)) in
-      let parts : semicolons_from p (drop p s) ≡ semicolons_from p (take (q - p) (drop p s)) ++ semicolons_from q (drop q s)
-      = ap (semicolons_from p) (sym (take-append-drop (q - p) (drop p s))) ∙ semicolons_append p (take (q - p) (drop p s)) (drop (q - p) (drop p s))
-      ∙ rw (inside, drop-drop, next) refl in
+      let parts : semicolons_from p (drop p s) ≡ semicolons_from p block ++ semicolons_from q (drop q s)
+      = ap (semicolons_from p) (sym b.0) ∙ semicolons_append p block (drop q s) ∙ rw b.1 refl in
       e ∙ ap (λ (l : List ℕ). take found stops ++ l) parts ∙ sym (append_assoc (take found stops) _ _)
 
   pub index_go : r ≤ 38 → semicolons s ≡ take r later ++ semicolons_from q (drop q s)
@@ -89,7 +109,7 @@ module _ (s stops later : List ℕ) (found r p q : ℕ) (e : semicolons s ≡ ta
 
   pub index_over : found ≤ length stops → 38 < r → false ≡ is_whole s
   index_over f g =
-      let more : List ℕ = semicolons_from p (take (q - p) (drop p s)) in
+      let more : List ℕ = semicolons_from p block in
       let l : length (semicolons s) ≡ found + length more + length (semicolons_from q (drop q s))
       = ap length block_and_rest ∙ rw (length-append, length-append, length-take-le found stops f) refl in
       not_whole s (λ n. omega (arith, n, x.over g, l))

@@ -23,17 +23,13 @@ fn extend(stops: &mut [usize; 39], found: usize, w: &[u8], at: usize) -> usize
     ensures { Extended stops.old found (semicolons_from at w.now) stops.new result }
 {
     let mut count = found;
-    let mut i = 0;
-    while i < w.len() {
-        if w[i] == b';' {
+    for (i, b) in w.iter().enumerate() {
+        if *b == b';' {
             if count == 38 {
                 return 39;
             }
             stops[count] = at + i;
             count += 1;
-            i += 1;
-        } else {
-            i += 1;
         }
     }
     count
@@ -48,17 +44,15 @@ fn fill(stops: &mut [usize; 39], record: &[u8]) -> bool
     if record.len() < 38 {
         return false;
     }
+    let (blocks, rest) = record.as_chunks::<BLOCK_SIZE>();
     let mut found: usize = 0;
-    let mut p = 0;
-    while BLOCK_SIZE <= record.len() - p {
-        let next = p + BLOCK_SIZE;
-        found = extend(stops, found, &record[p..next], p);
+    for (k, block) in blocks.iter().enumerate() {
+        found = extend(stops, found, block, k * BLOCK_SIZE);
         if 38 < found {
             return false;
         }
-        p = next;
     }
-    found = extend(stops, found, &record[p..], p);
+    found = extend(stops, found, rest, blocks.len() * BLOCK_SIZE);
     if found != 38 {
         return false;
     }
@@ -174,15 +168,19 @@ pub fn field(record: &[u8], n: usize) -> &[u8]
 }
 
 // The byte of a field of one byte; 0 for any other field.
+#[tactic(auto, using(crate::proofs::FormLaws::letter_one, crate::proofs::FormLaws::letter_other))]
 pub fn letter_of(s: &[u8]) -> u8
     ensures { result ≡ letter s.now }
 {
-    if s.len() == 1 { s[0] } else { 0 }
+    match s {
+        [letter] => *letter,
+        _ => 0,
+    }
 }
 
 // The first byte of a field; 0 for a blank one.
 pub fn first_byte(s: &[u8]) -> u8
     ensures { result ≡ get_or s.now 0 0 }
 {
-    if 0 < s.len() { s[0] } else { 0 }
+    s.first().copied().unwrap_or(0)
 }

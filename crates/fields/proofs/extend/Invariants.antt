@@ -1,4 +1,4 @@
-use Prim.Native.Nat.{◌+◌, ◌-◌, ◌≤◌}
+use Prim.Native.Nat.{◌+◌, ◌≤◌}
 use mathlib.Core.List.{◌++◌}
 use mathlib.Core.Path.{◌≡◌}
 use lib.ListN.{length, take, drop}
@@ -7,7 +7,4 @@ use Rattle.fields.proofs.extend.Given as goal
 
 abbrev pub invariant-loop-i : goal.invariant-loop-i
 invariant-loop-i l =
-    (l.i ≤ length l.w) × (l.count ≤ 38) × (length l.stops ≡ 39) × (take l.found l.initial.stops ++ semicolons_from l.at l.w ≡ take l.count l.stops ++ semicolons_from (l.at + l.i) (drop l.i l.w))
-
-abbrev pub decreases-loop-i : goal.decreases-loop-i
-decreases-loop-i l = length l.w - l.i
+    (l.count ≤ 38) × (length l.stops ≡ 39) × (take l.found l.initial.stops ++ semicolons_from l.at l.w ≡ take l.count l.stops ++ semicolons_from (l.at + l.i) (drop l.i l.w))
