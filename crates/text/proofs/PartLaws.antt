@@ -1,10 +1,10 @@
 -- Where the parts of what was lent lie in the caller's memory.
 -- Assumes nothing.
-use Prim.Native.Nat.{ℕ, ◌+◌, ◌≤◌, ◌<◌}
+use Prim.Native.Nat.{ℕ, ◌+◌, ◌≤◌}
 use native.Mathlib.Omega.{arith}
 use mathlib.Core.List.{List}
 use mathlib.Core.Path.{◌≡◌, ap}
-use borrow.Author.Tests.{le-leb, lt-leb}
+use borrow.Author.Tests.{le-leb}
 use denote.Ref.{Bor}
 use lib.ListN.{length}
 use Rattle.text.specs.Part.{rest_start}
@@ -17,9 +17,6 @@ module _ (lent : Bor (List ℕ)) where
   pub at_byte : (k : ℕ) → ◌≡◌ {A = ℕ × ℕ} (lent.ref_ptr.0, k + lent.ref_ptr.1) (lent.ref_ptr.0, lent.ref_ptr.1 + k)
   at_byte k = let e : k + lent.ref_ptr.1 ≡ lent.ref_ptr.1 + k = omega arith in ap (λ (n : ℕ). (lent.ref_ptr.0, n)) e
 
-  -- the two cases of what follows the first k bytes
+  -- what follows the first k bytes, where there are as many
   pub rest_at : (k : ℕ) → k ≤ length lent.now → ◌≡◌ {A = ℕ × ℕ} (lent.ref_ptr.0, k + lent.ref_ptr.1) (lent.ref_ptr.0, lent.ref_ptr.1 + rest_start k lent.now)
   rest_at k h = rw (le-leb _ _ h) (at_byte k)
-
-  pub rest_none : (k : ℕ) → length lent.now < k → lent.ref_ptr ≡ (lent.ref_ptr.0, lent.ref_ptr.1 + rest_start k lent.now)
-  rest_none k h = rw (lt-leb _ _ h) at_start

@@ -52,14 +52,14 @@ impl Word for u16 {
     ghost number = { λ x. x };
 
     fn read_first(s: &[u8]) -> u16 {
-        match s.first_chunk() {
+        match s.first_chunk::<2>() {
             Some(w) => u16::from_le_bytes(*w),
             None => 0,
         }
     }
 
     fn write_first(self, s: &mut [u8]) {
-        if let Some(w) = s.first_chunk_mut() {
+        if let Some(w) = s.first_chunk_mut::<2>() {
             *w = u16::to_le_bytes(self);
         }
     }
@@ -71,14 +71,14 @@ impl Word for u32 {
     ghost number = { λ x. x };
 
     fn read_first(s: &[u8]) -> u32 {
-        match s.first_chunk() {
+        match s.first_chunk::<4>() {
             Some(w) => u32::from_le_bytes(*w),
             None => 0,
         }
     }
 
     fn write_first(self, s: &mut [u8]) {
-        if let Some(w) = s.first_chunk_mut() {
+        if let Some(w) = s.first_chunk_mut::<4>() {
             *w = u32::to_le_bytes(self);
         }
     }
@@ -90,29 +90,17 @@ impl Word for u64 {
     ghost number = { λ x. x };
 
     fn read_first(s: &[u8]) -> u64 {
-        match s.first_chunk() {
+        match s.first_chunk::<8>() {
             Some(w) => u64::from_le_bytes(*w),
             None => 0,
         }
     }
 
     fn write_first(self, s: &mut [u8]) {
-        if let Some(w) = s.first_chunk_mut() {
+        if let Some(w) = s.first_chunk_mut::<8>() {
             *w = u64::to_le_bytes(self);
         }
     }
-}
-
-fn is_digit(b: u8) -> bool
-    ensures { result ≡ is_digit b }
-{
-    (b'0' <= b) & (b <= b'9')
-}
-
-fn is_capital(b: u8) -> bool
-    ensures { result ≡ is_capital b }
-{
-    (b'A' <= b) & (b <= b'Z')
 }
 
 fn is_word_byte(b: u8) -> bool
@@ -138,9 +126,9 @@ pub fn belongs(c: Class, b: u8) -> bool
     ensures { result ≡ belongs_to c b }
 {
     match c {
-        Class::Digit => is_digit(b),
-        Class::Capital => is_capital(b),
-        Class::CapitalOrDigit => is_capital(b) | is_digit(b),
+        Class::Digit => b.is_ascii_digit(),
+        Class::Capital => b.is_ascii_uppercase(),
+        Class::CapitalOrDigit => b.is_ascii_uppercase() | b.is_ascii_digit(),
         Class::WordByte => is_word_byte(b),
         Class::RecordByte => is_record_byte(b),
         Class::AboveApostrophe => b'\'' < b,
@@ -155,17 +143,17 @@ pub fn belongs(c: Class, b: u8) -> bool
 pub fn wide(b: u8) -> u64
     ensures { (result ≡ b) × (result < 256) }
 {
-    b as u64
+    u64::from(b)
 }
 
 // 0 for a byte of the class c, and for no other.
 fn mark(c: Class, b: u8) -> u8
     ensures { eqb result 0 ≡ belongs_to c b }
 {
-    if let Class::Zero = c {
-        return b;
+    match c {
+        Class::Zero => b,
+        _ => if belongs(c, b) { 0 } else { 1 },
     }
-    if belongs(c, b) { 0 } else { 1 }
 }
 
 // Whether every byte of s is of the class c: their marks put together are none. Without an early end many bytes are tested side by side.
