@@ -70,10 +70,6 @@ pub answer_put_in : (at : ℕ) (a : Answer) (s : List ℕ) {ys : List ℕ} → a
 unfolding answer_put
 answer_put_in at a s h e = rw (le-leb _ _ h, e, add-sub_cancel_left)
 
-pub answer_out : (at : ℕ) (s : List ℕ) {r : Answer} → length s < at + answer_size → r ≡ zero_answer → r ≡ answer_at at s
-unfolding answer_at
-answer_out at s h e = rw (lt-leb _ _ h) e
-
 pub answer_in_lem : (at : ℕ) (s : List ℕ) {failed code booked len : ℕ} → at + answer_size ≤ length s → failed ≡ number_at 8 at s
     → code ≡ number_at 2 (at + 8) s → booked ≡ number_at 2 (at + 12) s → len ≡ number_at 2 (at + 14) s
     → record {
@@ -167,3 +163,6 @@ answer_none s at h = rw (lt-leb _ _ h)
 
 pub answer_missing : (s : List ℕ) (k : ℕ) {a : Answer} → length s / answer_size ≤ k → a ≡ answer_at (length s) s → a ≡ answer_at (k * answer_size) s
 answer_missing s k h e = e ∙ answer_none s (length s) (omega arith) ∙ sym (answer_none s (k * answer_size) (omega arith))
+
+-- what the proofs of the functions cite
+pub ruleset writing_laws = (answer_put_out, answer_put_in)

@@ -1,8 +1,8 @@
 // The answer record: sixteen bytes, written and read at a place of a buffer.
 #![tactic(auto)]
 
-ghost use Rattle.std.specs.Prelude.{◌≡◌, ◌*◌, length};
-ghost use Rattle.answer.specs.Answer.{answer_size, answer_bytes, answer_put, zero_answer, answer_at};
+ghost use Rattle.std.specs.Prelude.{◌≡◌, ◌+◌, ◌*◌, leb, length};
+ghost use Rattle.answer.specs.Answer.{answer_size, answer_bytes, answer_put, answer_at};
 
 use failures::Failures;
 
@@ -16,7 +16,7 @@ pub const NO_REPORTER: u8 = 255;
 pub const BOOKED: u8 = 0;
 
 // What a call answers to a record.
-#[derive(Clone, Copy)]
+#[derive(Clone, Copy, Default)]
 pub struct Answer {
     // The set of failed checks.
     pub failed: Failures,
@@ -32,75 +32,64 @@ pub struct Answer {
     pub length: u16,
 }
 
+// Whether the sixteen bytes of s from a place on are all there.
+fn is_there(s: &[u8], at: usize) -> bool
+    ensures { result ≡ leb (at + answer_size) (length s.now) }
+{
+    SIZE <= s.len() && at <= s.len() - SIZE
+}
+
 // Writes the answer over its sixteen bytes.
 fn fill(w: &mut [u8], a: Answer)
     requires { length w.old ≡ answer_size }
     ensures { w.new ≡ answer_bytes a }
 {
-    let failed = a.failed;
-    text::write_u64(w, 0, failed.bits);
-    text::write_u16(w, 8, a.code);
+    text::write(w, 0, a.failed.bits);
+    text::write(w, 8, a.code);
     w[10] = a.row;
     w[11] = a.status;
-    text::write_u16(w, 12, a.booked);
-    text::write_u16(w, 14, a.length);
+    text::write(w, 12, a.booked);
+    text::write(w, 14, a.length);
 }
 
 // Writes the answer into the sixteen bytes of out from a place on; nothing where they are not all there.
+#[tactic(auto, using(crate::proofs::AnswerLaws::writing_laws))]
 pub fn write(a: Answer, out: &mut [u8], at: usize)
     ensures { out.new ≡ answer_put at a out.old }
 {
-    if out.len() < SIZE {
-        return;
-    }
-    if out.len() - SIZE < at {
-        return;
-    }
-    fill(&mut out[at..at + SIZE], a);
-}
-
-// The answer of zeros.
-fn zeros() -> Answer
-    ensures { result ≡ zero_answer }
-{
-    Answer {
-        failed: Failures::none(),
-        code: 0,
-        row: 0,
-        status: 0,
-        booked: 0,
-        length: 0,
+    if is_there(out, at) {
+        fill(&mut out[at..at + SIZE], a);
     }
 }
 
 // The answer in the sixteen bytes of s from a place on; zeros where they are not all there.
+#[tactic(auto, unfolding(crate::specs::Answer::answer_at))]
 pub fn read(s: &[u8], at: usize) -> Answer
     ensures { result ≡ answer_at at s.now }
 {
-    if s.len() < SIZE {
-        return zeros();
-    }
-    if s.len() - SIZE < at {
-        return zeros();
+    if !is_there(s, at) {
+        return Answer::default();
     }
     Answer {
         failed: Failures {
-            bits: text::read_u64(s, at),
+            bits: text::read(s, at),
         },
-        code: text::read_u16(s, at + 8),
+        code: text::read(s, at + 8),
         row: s[at + 10],
         status: s[at + 11],
-        booked: text::read_u16(s, at + 12),
-        length: text::read_u16(s, at + 14),
+        booked: text::read(s, at + 12),
+        length: text::read(s, at + 14),
     }
 }
 
 // The answer to record k, counted from 0; zeros where it is not there.
+#[tactic(auto, using(crate::proofs::AnswerLaws::answer_missing))]
 pub fn answer_to(answers: &[u8], k: usize) -> Answer
     ensures { result ≡ answer_at (k * answer_size) answers.now }
 {
     if k < answers.len() / SIZE {
-        return read(answers, k * SIZE);
+        read(answers, k * SIZE)
+    } else {
+        read(answers, answers.len())
     }
-    read(answers, answers.len())
 }
