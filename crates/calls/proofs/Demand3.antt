@@ -15,7 +15,7 @@ use Rattle.failures.specs.declared.Failures.{Failures}
 use Rattle.tables.specs.Tables.{Tables}
 use Rattle.ledger.specs.Sound.{bank_count, compartment, sound_compartment, sound_ledger, ledger_flaw}
 use Rattle.ledger.proofs.LedgerLaws.{flaw_none, flawless, sound_part, own_put, other_put, put_sound, ledger_ext}
-use Rattle.sender.specs.declared.Checked.TheVariants.{Failed}
+use Rattle.std.specs.Prelude.{Err}
 use Rattle.calls.specs.Call.{Call, refusal_of, checked_of, row_of}
 use Rattle.calls.specs.Rules.{rules_for, rules}
 use Rattle.calls.specs.Judging.{earlier_fits, booking_rules}
@@ -73,7 +73,7 @@ module _ (tables : Tables) where
 
   -- The first moment at which the ledger is looked into: a record that fails places 0 to 6 is answered alike whatever a sound ledger holds.
   pub sender_check_blind : (call : Call) {failed : Failures} (l m : List ℕ) → sound_ledger l ≡ true → sound_ledger m ≡ true
-      → checked_of tables call ≡ Failed failed → (single (rules tables) call l).reply ≡ (single (rules tables) call m).reply
+      → checked_of tables call ≡ Err failed → (single (rules tables) call l).reply ≡ (single (rules tables) call m).reply
   sender_check_blind call l m h k e =
       let none : bank_count ≤ row_of (checked_of tables call) = rw e (omega arith) in
       consequences.stranger_blind (rules tables) call l m (flaw_none l h) (flaw_none m k) none

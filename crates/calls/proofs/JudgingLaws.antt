@@ -26,8 +26,7 @@ use Rattle.tables.specs.Currencies.{is_money}
 use Rattle.tables.specs.Tables.{Tables}
 use Rattle.ledger.specs.Sound.{compartment, ledger_flaw, sound_ledger}
 use Rattle.ledger.proofs.LedgerLaws.{flaw_none}
-use Rattle.sender.specs.declared.Checked.{Checked}
-use Rattle.sender.specs.declared.Checked.TheVariants.{Passed, Failed}
+use Rattle.std.specs.Prelude.{Result, Ok, Err}
 use Rattle.sender.proofs.SenderLaws.{failed_before}
 use Rattle.checks.proofs.VerdictLaws.{record_before, failures_before, failures_small}
 use Rattle.answer.specs.declared.Answer.{Answer}
@@ -35,7 +34,7 @@ use Rattle.answer.specs.Answer.{answer_size, answer_bytes, answer_at}
 use Rattle.answer.proofs.AnswerLaws.{answer_length, set_read}
 use Rattle.calls.specs.declared.judging.Formal.{Formal}
 use Rattle.calls.specs.declared.judging.Foreseen.{Foreseen}
-use Rattle.calls.specs.CallSteps.{ForeseenBy}
+use Rattle.calls.specs.CallSteps.{foreseen_of, foreseen_by}
 use Rattle.calls.specs.Call.{Call, refusal_of, checked_of, formal_of, answer_of, step_failures, step_answer}
 use Rattle.calls.specs.Rules.{rules}
 use Rattle.calls.specs.Judging.{booking, fits_failures, answer_in, earlier_fits, booking_rules, judged_of, in_a_row, replies_in_a_row, ledger_in_a_row, judged_on}
@@ -65,9 +64,9 @@ module _ (tables : Tables) where
   unfolding checked_of
   formal_before call = go (checked_of tables call) refl
     where
-      go : (k : Checked) → checked_of tables call ≡ k → before_booking (formal_of tables call).failed ≡ (formal_of tables call).failed
-      go (Passed row) q = rw (formal_at tables call q) (record_before tables.reporters (is_money tables.currencies) row (field_of call.«record»))
-      go (Failed failed) q =
+      go : (k : Result ℕ Failures) → checked_of tables call ≡ k → before_booking (formal_of tables call).failed ≡ (formal_of tables call).failed
+      go (Ok row) q = rw (formal_at tables call q) (record_before tables.reporters (is_money tables.currencies) row (field_of call.«record»))
+      go (Err failed) q =
           let s = call.«record» in
           rw (formal_at tables call q) (failed_before tables.reporters call.sender (is_whole s) (field_of s 1) (field_of s 2) q)
 
@@ -159,11 +158,11 @@ module _ (tables : Tables) where
     unfolding judged_of
     judged_refused e ne = ap unbooked (law.call_refused tables call l e ne)
 
-    pub judged_answered : {f : Foreseen} → refusal_of tables call (ledger_flaw l) ≡ 0 → ForeseenBy tables call l f
+    pub judged_answered : {f : Foreseen} → refusal_of tables call (ledger_flaw l) ≡ 0 → f ≡ foreseen_by tables call l
         → record { reply = accepted (answer_bytes f.answer); store = l } ≡ judged_of tables call l
-    unfolding judged_of
+    unfolding judged_of foreseen_of
     judged_answered free h =
-        (λ i. record { reply = accepted (answer_bytes (h.answered i)); store = l }) ∙ ap unbooked (law.call_settled tables call l free)
+        (λ i. record { reply = accepted (answer_bytes (h i).answer); store = l }) ∙ ap unbooked (law.call_settled tables call l free)
 
   -- one booking: by an earlier answer that fits it is the old call; by another it is refused and changes nothing
   module _ (b : WithEarlier Call) (l : List ℕ) where
@@ -184,34 +183,33 @@ module _ (tables : Tables) where
         (free, unless_none _ 29 (omega arith) (first_none _ [] fits).0)
 
   -- the returns of the booking call, of a record that is judged whole
-  module _ (call : Call) (earlier l : List ℕ) {n : ℕ} (e : n ≡ refusal_of tables call (ledger_flaw l)) where
+  module _ (call : Call) (earlier l : List ℕ) where
     abbrev number : ℕ
     number = (booking_rules tables).refusal (booking call earlier) (ledger_flaw l)
 
-    pub number_first : n ≢ 0 → n ≡ number
-    number_first ne = e ∙ earlier_first (rules tables) (earlier_fits tables) 29 (booking call earlier) (ledger_flaw l) (λ z. ne (e ∙ z))
+    pub number_first : {n : ℕ} → n ≡ refusal_of tables call (ledger_flaw l) → n ≢ 0 → n ≡ number
+    number_first e ne = e ∙ earlier_first (rules tables) (earlier_fits tables) 29 (booking call earlier) (ledger_flaw l) (λ z. ne (e ∙ z))
 
-    module _ (free : n ≡ 0) {f : Foreseen} (h : ForeseenBy tables call l f) {fit : Bool} (g : fit ≡ fits_failures earlier (before_booking f.answer.failed))
-      where
-        foreseen_before : before_booking f.answer.failed ≡ (formal_of tables call).failed
-        unfolding step_failures
-        foreseen_before =
-            ap before_booking (law.foreseen_failures tables call l (sym e ∙ free) h)
-            ∙ failures_before _ (formal_of tables call).failed (field_of call.«record») (formal_before call)
+    module _ (free : refusal_of tables call (ledger_flaw l) ≡ 0) {f : Foreseen} (h : f ≡ foreseen_by tables call l) {fit : Bool}
+        (g : fit ≡ fits_failures earlier (before_booking f.answer.failed)) where
+      foreseen_before : before_booking f.answer.failed ≡ (formal_of tables call).failed
+      unfolding step_failures
+      foreseen_before =
+          ap before_booking (law.foreseen_failures tables call l free h)
+          ∙ failures_before _ (formal_of tables call).failed (field_of call.«record») (formal_before call)
 
-        fit_earlier : fit ≡ earlier_fits tables call earlier
-        fit_earlier = g ∙ ap (fits_failures earlier) foreseen_before
+      fit_earlier : fit ≡ earlier_fits tables call earlier
+      fit_earlier = g ∙ ap (fits_failures earlier) foreseen_before
 
-        pub number_unfit : fit ≡ false → 29 ≡ number
-        number_unfit k =
-            earlier_unfit (rules tables) (earlier_fits tables) 29 (booking call earlier) (ledger_flaw l) (sym e ∙ free) (sym fit_earlier ∙ k)
+      pub number_unfit : fit ≡ false → 29 ≡ number
+      number_unfit k = earlier_unfit (rules tables) (earlier_fits tables) 29 (booking call earlier) (ledger_flaw l) free (sym fit_earlier ∙ k)
 
-        pub number_none : fit ≡ true → 0 ≡ number
-        number_none k = earlier_none (rules tables) (earlier_fits tables) 29 (booking call earlier) (ledger_flaw l) (sym e ∙ free) (sym fit_earlier ∙ k)
+      pub number_none : fit ≡ true → 0 ≡ number
+      number_none k = earlier_none (rules tables) (earlier_fits tables) 29 (booking call earlier) (ledger_flaw l) free (sym fit_earlier ∙ k)
 
-        pub booking_same : {o : Outcome (List ℕ) (List ℕ)} → fit ≡ true → o ≡ single (rules tables) call l
-            → o ≡ single (booking_rules tables) (booking call earlier) l
-        booking_same k q = q ∙ sym (booking_fits (booking call earlier) l (sym fit_earlier ∙ k))
+      pub booking_same : {o : Outcome (List ℕ) (List ℕ)} → fit ≡ true → o ≡ single (rules tables) call l
+          → o ≡ single (booking_rules tables) (booking call earlier) l
+      booking_same k q = q ∙ sym (booking_fits (booking call earlier) l (sym fit_earlier ∙ k))
 
     pub booking_refused : {k : ℕ} → k ≡ number → k ≢ 0 → record { reply = refused k; store = l } ≡ single (booking_rules tables) (booking call earlier) l
     booking_refused {k} q ne = sym (single_refused (booking_rules tables) (booking call earlier) l k (sym q) ne)

@@ -15,10 +15,8 @@ use Rattle.tables.proofs.FlawLaws.{tables_never}
 use Rattle.ledger.specs.Sound.{ledger_flaw}
 use Rattle.answer.specs.Answer.{answer_size}
 use Rattle.envelope.specs.declared.Layout.{Layout}
-use Rattle.envelope.specs.declared.Opened.{Opened}
-use Rattle.envelope.specs.declared.Opened.TheVariants.{Report, Refused}
 use Rattle.envelope.specs.Pieces.{between}
-use Rattle.envelope.specs.Envelope.{file_limit, report_class, report_of, opened_as, sender_of, records_from}
+use Rattle.envelope.specs.Envelope.{file_limit, report_class, report_of, sender_of, records_from}
 use Rattle.envelope.proofs.OpenedLaws.{Whole, opened_whole, refused_from_five}
 use Rattle.calls.specs.Call.{Call, called, record_limit}
 use Rattle.calls.specs.Filing.{lent_refusal, report_calls, opened_reading, reading_of, FileOutcome, file_outcome, carried_out, file_of}
@@ -71,11 +69,11 @@ module _ (tables : Tables) (file : List ℕ) (held : ℕ) (free : Lent tables fi
       let short : length body ≤ record_limit = (let h = free.short in simp (length-take, length-drop) (omega arith)) in
       body_admitted tables (sender_of file l) free.lent whole.named body short
 
-  pub report_open : (m a : List ℕ) → ledger_flaw m ≡ 0 → l.records * answer_size ≤ length a → Open tables (sender_of file l) body 0 0 m a
+  pub report_open : (m a : List ℕ) → ledger_flaw m ≡ 0 → l.records * answer_size ≤ length a → Open tables (sender_of file l) body l.records 0 0 m a
   unfolding records_from
   report_open m a h room =
       let count : length (calls_from (sender_of file l) body 0) ≡ l.records = length-map (records_from file l) (called (sender_of file l)) ∙ whole.count in
-      record { whole = whole.counts; admitted = report_admitted; in_order = h; room = omega arith }
+      record { whole = whole.counts; counted = omega arith; admitted = report_admitted; in_order = h; room = room }
 
 -- no call that a file stands for is refused
 module _ (tables : Tables) (file : List ℕ) (room : ℕ) (calls : List Call) where
@@ -116,20 +114,24 @@ reading_never_four tables file room = past_never _ _ 4 (lent_never_four tables f
     opened (refused m) q = let five = refused_from_five report_class file m q in omega arith
     opened (accepted l) q = past_never _ _ 4 (unless_never _ 12 4 (omega arith) (omega arith)) (omega arith)
 
+-- an opened report is whole
+pub report_whole : (file : List ℕ) (l : Layout) → accepted l ≡ report_of file → Whole file l
+report_whole file l e = opened_whole report_class file l (sym e)
+
 -- The returns of the file call, on the ledger and the buffer that it is lent.
 module _ (tables : Tables) (file l a : List ℕ) where
   pub file_lent : {n : ℕ} → n ≡ lent_refusal tables file (ledger_flaw l) → n ≢ 0 → file_outcome (refused n) l a ≡ file_of tables file l a
   unfolding file_of carried_out
   file_lent e ne = rw (reading_lent tables file (ledger_flaw l) (length a) e ne)
 
-  module _ (free : lent_refusal tables file (ledger_flaw l) ≡ 0) {o : Opened} (q : opened_as o ≡ report_of file) where
-    pub file_unopened : {n r : ℕ} → o ≡ Refused n → r ≡ refusal_in (opened_as o) → file_outcome (refused r) l a ≡ file_of tables file l a
+  module _ (free : lent_refusal tables file (ledger_flaw l) ≡ 0) where
+    pub file_unopened : {r : ℕ} → refused r ≡ report_of file → file_outcome (refused r) l a ≡ file_of tables file l a
     unfolding file_of carried_out
-    file_unopened e h = rw (reading_on tables file (ledger_flaw l) (length a) free, ← q, h, e)
+    file_unopened q = rw (reading_on tables file (ledger_flaw l) (length a) free, ← q)
 
-    module _ {y : Layout} (e : o ≡ Report y) where
-      abbrev found : report_of file ≡ accepted y
-      found = sym q ∙ ap opened_as e
+    module _ {y : Layout} (q : accepted y ≡ report_of file) where
+      found : report_of file ≡ accepted y
+      found = sym q
 
       pub file_full : length a < y.records * answer_size → file_outcome (refused 12) l a ≡ file_of tables file l a
       unfolding file_of carried_out
@@ -139,14 +141,14 @@ module _ (tables : Tables) (file l a : List ℕ) where
       abbrev ok : Lent tables file (ledger_flaw l)
       ok = lent_ok tables file (ledger_flaw l) free
 
-      abbrev records_of_lem : List ℕ
-      records_of_lem = between file y.first y.end
+      abbrev body_of : List ℕ
+      body_of = between file y.first y.end
 
-      pub file_open : y.records * answer_size ≤ length a → Open tables (sender_of file y) records_of_lem 0 0 l a
+      pub file_open : y.records * answer_size ≤ length a → Open tables (sender_of file y) body_of y.records 0 0 l a
       file_open h = report_open tables file (ledger_flaw l) ok y found l a ok.kept h
 
       pub file_taken : {w : FileOutcome} → y.records * answer_size ≤ length a
-          → w ≡ carried_out tables (accepted (calls_from (sender_of file y) records_of_lem 0)) l a → w ≡ file_of tables file l a
+          → w ≡ carried_out tables (accepted (calls_from (sender_of file y) body_of 0)) l a → w ≡ file_of tables file l a
       unfolding file_of
       file_taken h t =
           t ∙ rw (reading_on tables file (ledger_flaw l) (length a) free, found, past_holds 12 (accepted (report_calls file y)) (le-leb _ _ h))

@@ -2,9 +2,13 @@
 -- Assumes nothing.
 use Prim.Native.Nat.{ℕ, suc, ◌+◌, ◌-◌, ◌*◌, ◌≤◌, ◌<◌}
 use native.Mathlib.Omega.{arith}
+use mathlib.Core.Bool.{Bool, true, false}
 use mathlib.Core.List.{List, [], ◌∷◌, ◌++◌, append-nil, append_assoc, map}
 use mathlib.Core.Path.{◌≡◌, refl, ap, subst, sym, ◌∙◌}
-use borrow.Author.Tests.{le-leb}
+use Rattle.std.specs.Prelude.{Option, Some, None, Ok}
+use Rattle.std.proofs.lemmas.List.{nil_from_length}
+use borrow.Author.Tests.{le-leb, leb-true, leb-false}
+use lib.Dec.{leb}
 use lib.ListN.{length, take, drop, length-append, take-append-drop}
 use lib.Seq.{take_at, drop_at, drop-drop, length-take-le}
 use Rattle.frame.specs.Isolation.{Outcome, single, replies, store_after}
@@ -16,13 +20,10 @@ use Rattle.tables.specs.Tables.{Tables}
 use Rattle.ledger.specs.Sound.{ledger_flaw}
 use Rattle.answer.specs.declared.Answer.{Answer}
 use Rattle.answer.specs.Answer.{answer_size, answer_bytes, answer_put}
-use Rattle.envelope.specs.declared.Piece.{Piece}
-use Rattle.envelope.specs.declared.Piece.TheVariants.{EndsAt, Missing}
 use Rattle.envelope.specs.Pieces.{run_of}
 use Rattle.envelope.specs.Body.{Records, records, records_of, record_at, line_end}
 use Rattle.envelope.specs.Envelope.{listed}
 use Rattle.envelope.proofs.LineLaws.{lines_end, line_placed, line_found, line_there, lines_split}
-use Rattle.calls.specs.declared.Replied.TheVariants.{Answered}
 use Rattle.calls.specs.Call.{Call, called, refusal_of}
 use Rattle.calls.specs.Rules.{rules}
 use Rattle.calls.specs.Replied.{outcome}
@@ -53,7 +54,7 @@ module _ (k : ℕ) (w a : List ℕ) (sized : length w ≡ answer_size) (room : k
       rw (e, ← drop-drop (n * answer_size) m (put answer_size k w a), same) (drop-drop (n * answer_size) m a)
 
 -- what is lent of a body as its record at a place
-module _ (body : List ℕ) (at next : ℕ) (more : at < length body) (e : line_end body at ≡ EndsAt next) where
+module _ (body : List ℕ) (at next : ℕ) (more : at < length body) (e : line_end body at ≡ Some next) where
   record_lent : take (next - 2 - at) (drop at body) ≡ record_at body at
   record_lent =
       let placed = line_placed body at next (omega arith) e in
@@ -62,16 +63,16 @@ module _ (body : List ℕ) (at next : ℕ) (more : at < length body) (e : line_e
 
 -- the call of a record that stands ready, and its answer, written as number k
 module _ (tables : Tables) (sender body : List ℕ) (at k : ℕ) (l a : List ℕ) (h : Ready tables sender body at k l a) where
-  pub lent_admitted : {next : ℕ} → line_end body at ≡ EndsAt next → refusal_of tables (called sender (take (next - 2 - at) (drop at body))) (ledger_flaw l) ≡ 0
+  pub lent_admitted : {next : ℕ} → line_end body at ≡ Some next → refusal_of tables (called sender (take (next - 2 - at) (drop at body))) (ledger_flaw l) ≡ 0
   lent_admitted {next} e = ap (λ (r : List ℕ). refusal_of tables (called sender r) (ledger_flaw l)) (record_lent body at next h.more e) ∙ h.admitted
 
-  pub record_taken : {next : ℕ} (w : Answer) {m b : List ℕ} → line_end body at ≡ EndsAt next
-      → outcome (Answered w) m ≡ single (rules tables) (called sender (take (next - 2 - at) (drop at body))) l
+  pub record_taken : {next : ℕ} (w : Answer) {m b : List ℕ} → line_end body at ≡ Some next
+      → outcome (Ok w) m ≡ single (rules tables) (called sender (take (next - 2 - at) (drop at body))) l
       → b ≡ answer_put (k * answer_size) w a → Taken tables sender body at k l a next m b
   unfolding answer_put put answers_in
   record_taken {next} w {m} {b} e o p =
       let call : List ℕ → Call = called sender in
-      let done : outcome (Answered w) m ≡ single (rules tables) (call (record_at body at)) l
+      let done : outcome (Ok w) m ≡ single (rules tables) (call (record_at body at)) l
       = o ∙ ap (λ (r : List ℕ). single (rules tables) (call r) l) (record_lent body at next h.more e) in
       let bytes : answer_bytes w ≡ answers_in ((single (rules tables) (call (record_at body at)) l).reply ∷ [])
       = sym (append-nil (answer_bytes w)) ∙ ap (λ (q : Outcome (List ℕ) (List ℕ)). answers_in (q.reply ∷ [])) done in
@@ -84,7 +85,7 @@ module _ (tables : Tables) (sender body : List ℕ) (at k : ℕ) (l a : List ℕ
 -- the same, of a record from its place to its end: CR LF stands behind it
 module _ (tables : Tables) (sender body : List ℕ) (at k : ℕ) (l a : List ℕ) (h : Ready tables sender body at k l a) {end : ℕ}
     (e : end ≡ at + run_of RecordByte (drop at body)) where
-  found : (line_end body at ≡ EndsAt (end + 2)) × (end + 2 ≤ length body)
+  found : (line_end body at ≡ Some (end + 2)) × (end + 2 ≤ length body)
   found = line_found body at h.more h.line e
 
   pub end_within : end + 2 ≤ length body
@@ -98,10 +99,10 @@ module _ (tables : Tables) (sender body : List ℕ) (at k : ℕ) (l a : List ℕ
       subst (λ (n : ℕ). refusal_of tables (called sender (take (n - at) (drop at body))) (ledger_flaw l) ≡ 0) back
       (lent_admitted tables sender body at k l a h found.0)
 
-  pub end_taken : (w : Answer) {m b : List ℕ} → outcome (Answered w) m ≡ single (rules tables) (called sender (take (end - at) (drop at body))) l
+  pub end_taken : (w : Answer) {m b : List ℕ} → outcome (Ok w) m ≡ single (rules tables) (called sender (take (end - at) (drop at body))) l
       → b ≡ answer_put (k * answer_size) w a → Taken tables sender body at k l a (end + 2) m b
   end_taken w {m} o p =
-      let o : outcome (Answered w) m ≡ single (rules tables) (called sender (take (end + 2 - 2 - at) (drop at body))) l = rw back o in
+      let o : outcome (Ok w) m ≡ single (rules tables) (called sender (take (end + 2 - 2 - at) (drop at body))) l = rw back o in
       record_taken tables sender body at k l a h w found.0 o p
 
 module _ (tables : Tables) where
@@ -126,17 +127,32 @@ module _ (tables : Tables) where
 
   module _ (sender body : List ℕ) where
     -- what holds as the records are taken: the calls from a place on are left, k are answered, and the end is as it was
-    pub record Going (l₀ a₀ : List ℕ) (at k : ℕ) (l a : List ℕ) : Type 0 where
-      pub now : Open tables sender body at k l a
+    pub record Going (count : ℕ) (l₀ a₀ : List ℕ) (at k : ℕ) (l a : List ℕ) : Type 0 where
+      pub now : Open tables sender body count at k l a
       pub long : length a ≡ length a₀
       pub same : outcome_from 0 (calls_from sender body 0) l₀ a₀ ≡ outcome_from k (calls_from sender body at) l a
 
-    pub going_start : (l a : List ℕ) → Open tables sender body 0 0 l a → Going l a 0 0 l a
+    pub going_start : {count : ℕ} (l a : List ℕ) → Open tables sender body count 0 0 l a → Going count l a 0 0 l a
     going_start l a h = record { now = h; long = refl; same = refl }
 
-    module _ (l₀ a₀ : List ℕ) (at k : ℕ) (l a : List ℕ) (g : Going l₀ a₀ at k l a) (more : at < length body) where
+    -- while records are left, one stands at the place
+    still_more : {count : ℕ} (at k : ℕ) {l a : List ℕ} → Open tables sender body count at k l a → k < count → at < length body
+    still_more at k h left = go (leb (length body) at) refl
+      where
+        go : (b : Bool) → leb (length body) at ≡ b → at < length body
+        go true e =
+            let none : length (calls_from sender body at) ≡ 0
+            = ap (λ (r : Records). length (map (called sender) (listed r))) (lines_end body at (leb-true _ _ e)) in
+            let counted = h.counted in
+            absurd (omega arith)
+        go false e = leb-false _ _ e
+
+    module _ (count : ℕ) (l₀ a₀ : List ℕ) (at k : ℕ) (l a : List ℕ) (g : Going count l₀ a₀ at k l a) (left : k < count) where
+      more : at < length body
+      more = still_more at k g.now left
+
       -- the calls that are left are the record's at this place, and those from the next place on
-      module _ (next : ℕ) (e : line_end body at ≡ EndsAt next) where
+      module _ (next : ℕ) (e : line_end body at ≡ Some next) where
         split : (records_of (drop next body) ≡ records (listed (records_of (drop next body))))
             × (calls_from sender body at ≡ called sender (record_at body at) ∷ calls_from sender body next)
         split = let w = lines_split body at more g.now.whole next e in (w.0, ap (map (called sender)) w.1)
@@ -149,17 +165,18 @@ module _ (tables : Tables) where
         room : k * answer_size + answer_size ≤ length a
         room =
             let count : length (calls_from sender body at) ≡ suc (length (calls_from sender body next)) = ap length split.1 in
+            let counted = g.now.counted in
             let r = g.now.room in
             omega arith
 
       pub going_ready : Ready tables sender body at k l a
       going_ready = go (line_end body at) refl
         where
-          go : (p : Piece) → line_end body at ≡ p → Ready tables sender body at k l a
-          go (EndsAt next) e = record { more = more; line = line_there body at more g.now.whole; admitted = (free next e).0; room = room next e }
-          go Missing e = absurd (line_there body at more g.now.whole e)
+          go : (p : Option ℕ) → line_end body at ≡ p → Ready tables sender body at k l a
+          go (Some next) e = record { more = more; line = line_there body at more g.now.whole; admitted = (free next e).0; room = room next e }
+          go None e = absurd (line_there body at more g.now.whole e)
 
-      pub going_step : (next : ℕ) (l' a' : List ℕ) → Taken tables sender body at k l a next l' a' → Going l₀ a₀ next (k + 1) l' a'
+      pub going_step : (next : ℕ) (l' a' : List ℕ) → Taken tables sender body at k l a next l' a' → Going count l₀ a₀ next (k + 1) l' a'
       going_step next l' a' t =
           let call : Call = called sender (record_at body at) in
           let e = t.line in
@@ -167,10 +184,12 @@ module _ (tables : Tables) where
           let long : length a' ≡ length a
           = ap length t.buffer ∙ put_length answer_size k (answers_in ((single (rules tables) call l).reply ∷ [])) a (room next e) sized in
           let count : length (calls_from sender body at) ≡ suc (length (calls_from sender body next)) = ap length (split next e).1 in
+          let counted = g.now.counted in
           let r = g.now.room in
           record {
             now = record {
               whole = (split next e).0;
+              counted = omega arith;
               admitted = (free next e).1;
               in_order = ap ledger_flaw t.store ∙ after_in_order tables (call ∷ []) l g.now.in_order;
               room = rw long (omega arith);
@@ -181,14 +200,17 @@ module _ (tables : Tables) where
                 ∙ rw ((split next e).1, t.buffer, t.store) (outcome_step k call (calls_from sender body next) l a (free next e).0 (room next e));
           }
 
-    -- at the body's end all is done
-    pub going_done : (l₀ a₀ : List ℕ) (at k : ℕ) (l a : List ℕ) → Going l₀ a₀ at k l a → length body ≤ at
-        → file_outcome (accepted k) l a ≡ carried_out tables (accepted (calls_from sender body 0)) l₀ a₀
+    -- once all are taken, all is done
+    pub going_done : (count : ℕ) (l₀ a₀ : List ℕ) (at k : ℕ) (l a : List ℕ) → Going count l₀ a₀ at k l a → count ≤ k
+        → file_outcome (accepted count) l a ≡ carried_out tables (accepted (calls_from sender body 0)) l₀ a₀
     unfolding carried_out answers_in
-    going_done l₀ a₀ at k l a g h =
-        let none : calls_from sender body at ≡ [] = ap (λ (r : Records). map (called sender) (listed r)) (lines_end body at h) in
-        let last : outcome_from k [] l a ≡ file_outcome (accepted k) l a
-        = (let e : k + 0 ≡ k = omega arith in rw e (ap (file_outcome (accepted k) l) (take-append-drop (k * answer_size) a))) in
+    going_done count l₀ a₀ at k l a g h =
+        let counted = g.now.counted in
+        let none : calls_from sender body at ≡ [] = nil_from_length _ (omega arith) in
+        let same : k ≡ count = omega arith in
+        let last : outcome_from k [] l a ≡ file_outcome (accepted count) l a
+        = (let e : k + 0 ≡ k = omega arith in
+        rw e (ap (file_outcome (accepted k) l) (take-append-drop (k * answer_size) a) ∙ ap (λ (n : ℕ). file_outcome (accepted n) l a) same)) in
         let all : ℕ = length (calls_from sender body 0) in
         let first : carried_out tables (accepted (calls_from sender body 0)) l₀ a₀ ≡ outcome_from 0 (calls_from sender body 0) l₀ a₀
         = (let e : 0 + all ≡ all = omega arith in

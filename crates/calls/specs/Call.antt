@@ -1,6 +1,6 @@
 -- The single-record call of document 01: its refusals, its sender check, its answer and its booking.
 -- Assumes nothing.
-use Rattle.std.specs.Prelude.{ℕ, Bool, ◌&&◌, cond, List, [], ◌∷◌, leb, length}
+use Rattle.std.specs.Prelude.{ℕ, Bool, ◌&&◌, cond, List, [], ◌∷◌, leb, length, Result, Ok, Err}
 use Rattle.frame.specs.Reply.{unless, first_of}
 use Rattle.text.specs.Class.{is_record_byte}
 use Rattle.text.specs.Bytes.{all}
@@ -14,14 +14,13 @@ use Rattle.fields.specs.Forms.{letter}
 use Rattle.tables.specs.Tables.{Tables, tables_flaw}
 use Rattle.tables.specs.Currencies.{is_money}
 use Rattle.booking.specs.Booking.{booked}
-use Rattle.sender.specs.declared.Checked.{Checked}
-use Rattle.sender.specs.declared.Checked.TheVariants.{Passed, Failed}
 use Rattle.sender.specs.Sender.{sender_check}
 use Rattle.checks.specs.declared.Booking.{Booking}
 use Rattle.checks.specs.Record.{record_failures}
 use Rattle.checks.specs.Booking.{booking_of}
 use Rattle.checks.specs.Verdict.{failures_on, status_of}
 use Rattle.answer.specs.declared.Answer.{Answer}
+use Rattle.calls.specs.declared.Call.{Call as Given}
 use Rattle.calls.specs.declared.judging.Formal.{Formal}
 
 -- the arguments of a call but for the tables and the ledger
@@ -56,23 +55,23 @@ unfoldable pub refusal_of : Tables → Call → ℕ → ℕ
 refusal_of tables call held = first_of (tables_flaw tables ∷ held ∷ call_flaw call ∷ [])
 
 -- the sender check of a call's record
-unfoldable pub checked_of : Tables → Call → Checked
+unfoldable pub checked_of : Tables → Call → Result ℕ Failures
 checked_of tables call =
     sender_check tables.reporters call.sender (is_whole call.«record») (field_of call.«record» 1) (field_of call.«record» 2)
 
 -- the row for which the record passes it, 255 for none; and the failures of places 0 to 6
-abbrev pub row_of : Checked → ℕ
-row_of (Passed r) = r
-row_of (Failed failed) = no_reporter
+abbrev pub row_of : Result ℕ Failures → ℕ
+row_of (Ok r) = r
+row_of (Err failed) = no_reporter
 
-abbrev pub failed_of : Checked → Failures
-failed_of (Passed r) = no_failure
-failed_of (Failed failed) = failed
+abbrev pub failed_of : Result ℕ Failures → Failures
+failed_of (Ok r) = no_failure
+failed_of (Err failed) = failed
 
 -- places 0 to 60 by the sender check's finding: where it passes for a row, the failures of 7 to 60; else those of 0 to 6, and no row. F n is field n
-abbrev pub formal_in : List ℕ → (List ℕ → Bool) → (ℕ → List ℕ) → Checked → Formal
-formal_in reporters money F (Passed row) = record { row = row; failed = record_failures reporters money row F }
-formal_in reporters money F (Failed failed) = record { row = no_reporter; failed = failed }
+abbrev pub formal_in : List ℕ → (List ℕ → Bool) → (ℕ → List ℕ) → Result ℕ Failures → Formal
+formal_in reporters money F (Ok row) = record { row = row; failed = record_failures reporters money row F }
+formal_in reporters money F (Err failed) = record { row = no_reporter; failed = failed }
 
 unfoldable pub formal_by : List ℕ → (List ℕ → Bool) → List ℕ → Bool → (ℕ → List ℕ) → Formal
 formal_by reporters money sender whole F = formal_in reporters money F (sender_check reporters sender whole (F 1) (F 2))
@@ -115,3 +114,7 @@ module _ (formal : Formal) («record» c : List ℕ) where
 -- the call of a sender with a record
 abbrev pub called : List ℕ → List ℕ → Call
 called sender «record» = record { sender = sender; «record» = «record» }
+
+-- the call that code is given
+abbrev pub sent : Given → Call
+sent call = called call.sender.now call.«record».now

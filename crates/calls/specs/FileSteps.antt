@@ -1,12 +1,11 @@
 -- What the private functions of the file call ask and promise: of one record of a body, and of all its records.
 -- Assumes nothing.
-use Rattle.std.specs.Prelude.{ℕ, ◌+◌, ◌*◌, ◌≤◌, ◌<◌, List, [], ◌∷◌, map, ◌≡◌, length, drop}
+use Rattle.std.specs.Prelude.{ℕ, ◌+◌, ◌*◌, ◌≤◌, ◌<◌, List, [], ◌∷◌, map, Some, None, ◌≡◌, length, drop}
 use Rattle.frame.specs.Isolation.{single}
 use Rattle.frame.specs.Parts.{put}
 use Rattle.tables.specs.Tables.{Tables}
 use Rattle.ledger.specs.Sound.{ledger_flaw}
 use Rattle.answer.specs.Answer.{answer_size}
-use Rattle.envelope.specs.declared.Piece.TheVariants.{EndsAt, Missing}
 use Rattle.envelope.specs.Body.{records, records_of, record_at, line_end}
 use Rattle.envelope.specs.Envelope.{listed}
 use Rattle.calls.specs.Call.{Call, called, refusal_of}
@@ -27,19 +26,21 @@ module _ (tables : Tables) where
     -- a record stands at a place of the body, its call is not refused, and there is room for answer k
     pub record Ready (at k : ℕ) (l a : List ℕ) : Type 0 where
       pub more : at < length body
-      pub line : line_end body at ≡ Missing → ⊥
+      pub line : line_end body at ≡ None → ⊥
       pub admitted : refusal_of tables (called sender (record_at body at)) (ledger_flaw l) ≡ 0
       pub room : k * answer_size + answer_size ≤ length a
 
     -- that record was called singly, its answer is number k, and the next record stands at another place
     pub record Taken (at k : ℕ) (l a : List ℕ) (next : ℕ) (l' a' : List ℕ) : Type 0 where
-      pub line : line_end body at ≡ EndsAt next
+      pub line : line_end body at ≡ Some next
       pub store : l' ≡ (single (rules tables) (called sender (record_at body at)) l).store
       pub buffer : a' ≡ put answer_size k (answers_in ((single (rules tables) (called sender (record_at body at)) l).reply ∷ [])) a
 
-    -- the body is of the layout from a place on, none of its calls is refused, the ledger is sound, and from answer k on there is room
-    pub record Open (at k : ℕ) (l a : List ℕ) : Type 0 where
+    -- the body is of the layout from a place on, where k of its records are behind, none of its calls is refused, the ledger is sound, and for the answers
+    -- there is room
+    pub record Open (count at k : ℕ) (l a : List ℕ) : Type 0 where
       pub whole : records_of (drop at body) ≡ records (listed (records_of (drop at body)))
+      pub counted : k + length (calls_from sender body at) ≡ count
       pub admitted : Admitted (calls_from sender body at)
       pub in_order : ledger_flaw l ≡ 0
-      pub room : (k + length (calls_from sender body at)) * answer_size ≤ length a
+      pub room : count * answer_size ≤ length a

@@ -1,22 +1,23 @@
 // The single-record call: judging and booking in a row.
 #![tactic(auto)]
 
-ghost use Rattle.std.specs.Prelude.{◌≡◌, ◌+◌, ◌≤◌, ◌<◌, length};
+ghost use Rattle.std.specs.Prelude.{[], ◌∷◌, Ok, ◌≡◌, length};
 ghost use Rattle.frame.specs.Isolation.{single};
-ghost use Rattle.frame.specs.Parts.{put};
-ghost use Rattle.fields.specs.Fields.{bytes_at};
-ghost use Rattle.tables.specs.Tables.{tables_of};
-ghost use Rattle.ledger.specs.Sound.{bank_count, compartment_size, ledger_size, compartment, ledger_flaw};
-ghost use Rattle.booking.specs.Booking.{booked};
-ghost use Rattle.calls.specs.Call.{record_form, call_flaw, refusal_of, called};
+ghost use Rattle.frame.specs.Reply.{first_of};
+ghost use Rattle.refusal.specs.Refusal.{number_in};
+ghost use Rattle.tables.specs.Tables.{lent, tables_flaw};
+ghost use Rattle.ledger.specs.Sound.{ledger_flaw};
+ghost use Rattle.calls.specs.Call.{record_form, call_flaw, refusal_of, sent};
+ghost use Rattle.calls.specs.CallSteps.{Settles, settled};
 ghost use Rattle.calls.specs.Rules.{rules};
 ghost use Rattle.calls.specs.Judging.{in_a_row};
 ghost use Rattle.calls.specs.Replied.{outcome};
-ghost use Rattle.calls.specs.declared.Replied.TheVariants.{Answered};
 
 use answer::Answer;
 use judging::{Foreseen, judged};
 use ledger::COMPARTMENT_SIZE;
+use refusal::Refusal;
+use tables::Tables;
 use text::Class;
 
 pub mod earlier;
@@ -26,11 +27,11 @@ pub mod judging;
 // The largest record.
 const RECORD_LIMIT: usize = 32768;
 
-// What a call returns: the number of its refusal, or its answer.
+// The arguments of a call but for the tables and the ledger.
 #[derive(Clone, Copy)]
-pub enum Replied {
-    Refused(u8),
-    Answered(Answer),
+pub struct Call<'a> {
+    pub sender: &'a [u8],
+    pub record: &'a [u8],
 }
 
 // Whether a record is at most 32,768 bytes, without CR, LF or apostrophe.
@@ -40,102 +41,73 @@ fn is_record(record: &[u8]) -> bool
     record.len() <= RECORD_LIMIT && text::all(Class::RecordByte, record)
 }
 
-// The number by which its sender or its record refuses a call: 13, 14, the first that applies; 0 for none.
-fn call_flaw<'a>(sender: &'a [u8], record: &'a [u8]) -> u8
-    ensures { result ≡ call_flaw (called sender.now «record».now) }
+// Refusals 13 and 14, of a call's sender and its record.
+fn call_flaw(call: Call) -> Result<(), Refusal>
+    ensures { number_in result ≡ call_flaw (sent call.entry) }
 {
-    if !identifier::is_name(sender, 8) {
-        return 13;
+    if !identifier::is_name(call.sender, 8) {
+        return Err(Refusal::Sender);
     }
-    if !is_record(record) {
-        return 14;
+    if !is_record(call.record) {
+        return Err(Refusal::Record);
     }
-    0
+    Ok(())
 }
 
-// The number by which a call is refused: 2, 3, 4, 13, 14, the first that applies; 0 for none.
-pub fn refusal<'a>(
-    reporters: &'a [u8],
-    currencies: &'a [u8],
-    ledger: &'a [u8],
-    sender: &'a [u8],
-    record: &'a [u8],
-) -> u8
-    ensures { result ≡ refusal_of (tables_of reporters.now currencies.now) (called sender.now «record».now)
-        (ledger_flaw ledger.now) }
+// Refusals 2 to 4, of the tables and the ledger that are lent.
+fn lent_flaw(tables: Tables, ledger: &[u8]) -> Result<(), Refusal>
+    ensures { number_in result ≡ first_of (tables_flaw (lent tables.entry) ∷ ledger_flaw ledger.now ∷ []) }
 {
-    if !tables::reporters_ok(reporters) {
-        return 2;
-    }
-    if !tables::currencies_ok(currencies) {
-        return 3;
-    }
+    tables.check()?;
     if !ledger::sound_ledger(ledger) {
-        return 4;
+        return Err(Refusal::Ledger);
     }
-    call_flaw(sender, record)
+    Ok(())
 }
 
-// Books a record that is foreseen without a failure: the booking is lent the compartment of its bank, and nothing of the others.
-pub(crate) fn settle<'a>(ledger: &mut [u8], foreseen: Foreseen, record: &'a [u8])
-    requires { (foreseen.answer.row < bank_count) × (length ledger.old ≡ ledger_size)
-        × (foreseen.number.start + foreseen.number.length ≤ length «record».now) }
-    ensures { ledger.new ≡ put compartment_size foreseen.answer.row
-        (booked foreseen.answer.booked (bytes_at «record».now foreseen.number) foreseen.quantity foreseen.side foreseen.named
-        (compartment foreseen.answer.row ledger.old)) ledger.old }
+// Why a call is refused: 2, 3, 4, 13, 14, the first that applies.
+pub fn refusal(tables: Tables, ledger: &[u8], call: Call) -> Result<(), Refusal>
+    ensures { number_in result ≡ refusal_of (lent tables.entry) (sent call.entry) (ledger_flaw ledger.now) }
 {
-    let answer = foreseen.answer;
-    let a = answer.row as usize * COMPARTMENT_SIZE;
-    let e = a + COMPARTMENT_SIZE;
-    let place = foreseen.number;
-    let start = place.start;
-    let end = start + place.length;
-    booking::book(
-        &mut ledger[a..e],
-        answer.booked as usize,
-        &record[start..end],
-        foreseen.quantity,
-        foreseen.side,
-        foreseen.named,
-    );
+    lent_flaw(tables, ledger)?;
+    call_flaw(call)
+}
+
+// Books a record for which an entry is foreseen: the booking is lent the compartment of its bank, and nothing of the others.
+pub(crate) fn settle(ledger: &mut [u8], foreseen: Foreseen, record: &[u8])
+    requires { Settles foreseen «record».now ledger.old }
+    ensures { ledger.new ≡ settled foreseen «record».now ledger.old }
+{
+    if let Some(entry) = foreseen.entry {
+        let a = foreseen.answer.row as usize * COMPARTMENT_SIZE;
+        let e = a + COMPARTMENT_SIZE;
+        let start = entry.number.start;
+        let end = start + entry.number.length;
+        booking::book(
+            &mut ledger[a..e],
+            foreseen.answer.booked as usize,
+            &record[start..end],
+            entry.quantity,
+            entry.side,
+            entry.named,
+        );
+    }
 }
 
 // A call that is not refused: judged and booked, the two in a row.
-pub(crate) fn admitted<'a>(
-    reporters: &'a [u8],
-    currencies: &'a [u8],
-    ledger: &mut [u8],
-    sender: &'a [u8],
-    record: &'a [u8],
-) -> Answer
-    requires { refusal_of (tables_of reporters.now currencies.now) (called sender.now «record».now) (ledger_flaw ledger.old) ≡ 0 }
-    ensures { outcome (Answered result) ledger.new ≡ single (rules (tables_of reporters.now currencies.now))
-        (called sender.now «record».now) ledger.old }
+pub(crate) fn admitted(tables: Tables, ledger: &mut [u8], call: Call) -> Answer
+    requires { refusal_of (lent tables) (sent call) (ledger_flaw ledger.old) ≡ 0 }
+    ensures { outcome (Ok result) ledger.new ≡ single (rules (lent tables.entry)) (sent call.entry) ledger.old }
 {
-    let foreseen = judged(reporters, currencies, ledger, sender, record);
-    let answer = foreseen.answer;
-    let failed = answer.failed;
-    if !failed.is_empty() {
-        return answer;
-    }
-    settle(ledger, foreseen, record);
-    answer
+    let foreseen = judged(tables, ledger, call);
+    settle(ledger, foreseen, call.record);
+    foreseen.answer
 }
 
 // The old single-record call: refusals 2, 3, 4, 13, 14 in that order; then judging and booking in a row. Nothing is judged twice.
-pub fn record_call<'a>(
-    reporters: &'a [u8],
-    currencies: &'a [u8],
-    ledger: &mut [u8],
-    sender: &'a [u8],
-    record: &'a [u8],
-) -> Replied
-    ensures { outcome result ledger.new ≡ in_a_row (tables_of reporters.now currencies.now)
-        (called sender.now «record».now) ledger.old }
+pub fn record_call(tables: Tables, ledger: &mut [u8], call: Call) -> Result<Answer, Refusal>
+    ensures { outcome result ledger.new ≡ in_a_row (lent tables.entry) (sent call.entry) ledger.old }
 {
-    let n = refusal(reporters, currencies, ledger, sender, record);
-    if n != 0 {
-        return Replied::Refused(n);
-    }
-    Replied::Answered(admitted(reporters, currencies, ledger, sender, record))
+    refusal(tables, ledger, call)?;
+    Ok(admitted(tables, ledger, call))
 }

@@ -1,27 +1,12 @@
-use mathlib.Core.Path.{ap}
-use mathlib.Core.Bool.{not}
-use Rattle.frame.proofs.ReplyLaws.{first_last}
-use Rattle.calls.specs.Call.{refusal_of}
-use Rattle.calls.proofs.CallLaws.{lent_2, lent_3, lent_4, lent_on}
+use Rattle.std.proofs.lemmas.Result.{err_from_is_err_and}
+use Rattle.refusal.proofs.RefusalLaws.{number_some}
+use Rattle.calls.proofs.CallLaws.{refused_first, refused_last}
 use Rattle.calls.proofs.refusal.Goals as goal
 
-pub returns-then-not-reporters_ok : goal.returns-then-not-reporters_ok
-unfolding refusal_of
-returns-then-not-reporters_ok c = lent_2 _ _ _ c.reporters_ok.ensures (ap not c.if-not-reporters_ok.true)
-
-pub returns-then-not-currencies_ok : goal.returns-then-not-currencies_ok
-unfolding refusal_of
-returns-then-not-currencies_ok c =
-    lent_3 _ _ _ c.reporters_ok.ensures (ap not c.if-not-reporters_ok.false) c.currencies_ok.ensures (ap not c.if-not-currencies_ok.true)
-
-pub returns-then-not-sound_ledger : goal.returns-then-not-sound_ledger
-unfolding refusal_of
-returns-then-not-sound_ledger c =
-    lent_4 _ _ _ c.reporters_ok.ensures (ap not c.if-not-reporters_ok.false) c.currencies_ok.ensures (ap not c.if-not-currencies_ok.false)
-    c.sound_ledger.ensures (ap not c.if-not-sound_ledger.true)
+pub returns-in_err-lent_flaw : goal.returns-in_err-lent_flaw
+returns-in_err-lent_flaw c =
+    let p = err_from_is_err_and c.from_residual.result c.from_residual.ensures.1 in
+    rw (p.1, p.2) (refused_first _ _ _ c.in_err-lent_flaw.ensures (number_some _))
 
 pub returns : goal.returns
-unfolding refusal_of
-returns c =
-    lent_on _ _ _ c.reporters_ok.ensures (ap not c.if-not-reporters_ok.false) c.currencies_ok.ensures (ap not c.if-not-currencies_ok.false)
-    c.sound_ledger.ensures (ap not c.if-not-sound_ledger.false) (first_last c.call_flaw.ensures)
+returns c = refused_last _ _ _ c.in_ok-lent_flaw.ensures c.call_flaw.ensures

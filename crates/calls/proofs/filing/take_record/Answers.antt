@@ -9,8 +9,8 @@ slice_bounds-admitted-end c =
     let within : c.record_end-end.result + 2 ≤ length c.args.body.now = end_within _ _ _ _ _ _ _ c.requires c.record_end-end.ensures in
     omega (arith, within)
 
-pub admitted-a-requires : goal.admitted-a-requires
-admitted-a-requires c = end_admitted _ _ _ _ _ _ _ c.requires c.record_end-end.ensures
+pub admitted-answer-requires : goal.admitted-answer-requires
+admitted-answer-requires c = end_admitted _ _ _ _ _ _ _ c.requires c.record_end-end.ensures
 
 pub overflow_add-result : goal.overflow_add-result
 overflow_add-result c =
@@ -19,5 +19,5 @@ overflow_add-result c =
 
 pub returns : goal.returns
 returns c =
-    end_taken _ _ _ _ _ _ _ c.requires c.record_end-end.ensures _ c.admitted-a.ensures
+    end_taken _ _ _ _ _ _ _ c.requires c.record_end-end.ensures _ c.admitted-answer.ensures
     c.write.ensures

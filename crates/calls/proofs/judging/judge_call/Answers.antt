@@ -1,12 +1,16 @@
-use mathlib.Core.Path.{sym, ◌∙◌}
+use mathlib.Core.Path.{sym}
+use Rattle.std.proofs.lemmas.Result.{err_from_is_err_and}
+use Rattle.refusal.proofs.RefusalLaws.{number_some}
 use Rattle.calls.proofs.JudgingLaws.{judged_refused, judged_answered}
 use Rattle.calls.proofs.judging.judge_call.Goals as goal
 
-pub returns-then-n-ne0 : goal.returns-then-n-ne0
-returns-then-n-ne0 c = judged_refused _ _ _ c.refusal-n.ensures c.if-n-ne0.true
+pub returns-in_err-refusal : goal.returns-in_err-refusal
+returns-in_err-refusal c =
+    let p = err_from_is_err_and c.from_residual.result c.from_residual.ensures.1 in
+    rw (p.1, p.2) (judged_refused _ _ _ c.in_err-refusal.ensures (number_some _))
 
-pub judged-foreseen-requires : goal.judged-foreseen-requires
-judged-foreseen-requires c = sym c.refusal-n.ensures ∙ c.if-n-ne0.false
+pub judged-requires : goal.judged-requires
+judged-requires c = sym c.in_ok-refusal.ensures
 
 pub returns : goal.returns
-returns c = judged_answered _ _ _ (sym c.refusal-n.ensures ∙ c.if-n-ne0.false) c.judged-foreseen.ensures
+returns c = judged_answered _ _ _ (sym c.in_ok-refusal.ensures) c.judged.ensures
