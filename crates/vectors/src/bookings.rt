@@ -8,12 +8,13 @@ use ledger::{
     COMPARTMENT_SIZE, LENGTH_PLACE, NO_PARTNER, NUMBER_PLACE, NUMBER_ROOM, PARTNER_PLACE,
     ROW_COUNT, ROW_SIZE, SIDE_PLACE, STATE_PLACE,
 };
+use page::Page;
 use std::io;
 use words::{before, behind, number};
 
 // The partner that a word names; none where there is no word.
 fn partner_of(word: &[u8]) -> u16 {
-    if word.len() == 0 {
+    if word.is_empty() {
         return NO_PARTNER;
     }
     (number(word) % ROW_COUNT) as u16
@@ -29,25 +30,24 @@ fn row_of(word: &[u8]) -> [u8; ROW_SIZE]
     row[STATE_PLACE] = (number(before(word, b':')) % 4) as u8;
     row[LENGTH_PLACE] = (name.len() % 256) as u8;
     row[SIDE_PLACE] = b'B';
-    page::append(&mut row, NUMBER_PLACE, text::front(name, NUMBER_ROOM));
-    text::write_u16(&mut row, PARTNER_PLACE, partner_of(behind(numbered, b':')));
+    let mut page = Page {
+        room: &mut row,
+        end: NUMBER_PLACE,
+    };
+    page.append(text::front(name, NUMBER_ROOM));
+    text::write(&mut row, PARTNER_PLACE, partner_of(behind(numbered, b':')));
     row
 }
 
 // Writes the rows that words say, one behind the other.
 fn write_rows(compartment: &mut [u8], rows: &[u8]) {
-    let mut end = 0;
-    let mut at = 0;
-    while at < rows.len() {
-        let row = row_of(before(text::rest(rows, at), b' '));
-        end = page::append(compartment, end, &row);
-        at = words::next(rows, at, b' ');
+    let mut page = Page {
+        room: compartment,
+        end: 0,
+    };
+    for word in rows.split_inclusive(|b| *b == b' ') {
+        page.append(&row_of(before(word, b' ')));
     }
-}
-
-// Prints a blank and the number of a row.
-fn print_row(rt: &impl Print, row: usize) -> io::Result<()> {
-    print!(rt; " {row}")
 }
 
 // Prints what the line aims at, the set of failures, the lowest free row and the live row that F16 names, 64 for none.
@@ -62,7 +62,5 @@ pub(crate) fn print(rt: &impl Print, line: &[u8]) -> io::Result<()> {
     rt.write_all(before(line, b' '))?;
     rt.write_all(b" ")?;
     print_failures(rt, found.failed)?;
-    print_row(rt, found.free)?;
-    print_row(rt, found.named)?;
-    rt.write_all(b"\n")
+    println!(rt; " {} {}", found.free, found.named)
 }

@@ -6,10 +6,9 @@ use words::{before, behind};
 
 // The value that a word stands for; `-` is the empty value.
 pub(crate) fn value(word: &[u8]) -> &[u8] {
-    if text::same(word, b"-") {
-        text::front(word, 0)
-    } else {
-        word
+    match word {
+        b"-" => b"",
+        _ => word,
     }
 }
 
@@ -17,12 +16,8 @@ pub(crate) fn value(word: &[u8]) -> &[u8] {
 fn print(rt: &impl Print, line: &[u8], right: bool) -> io::Result<()> {
     let label = behind(behind(line, b' '), b' ');
     rt.write_all(before(line, b' '))?;
-    if right {
-        rt.write_all(b" 1")?;
-    } else {
-        rt.write_all(b" 0")?;
-    }
-    if 0 < label.len() {
+    print!(rt; " {}", u8::from(right))?;
+    if !label.is_empty() {
         rt.write_all(b" ")?;
     }
     rt.write_all(label)?;
@@ -43,10 +38,7 @@ pub(crate) fn print_swift(rt: &impl Print, line: &[u8]) -> io::Result<()> {
 pub(crate) fn print_sum(rt: &impl Print, line: &[u8]) -> io::Result<()> {
     let mut room = [0u8; 32768];
     let end = pieces::write(&mut room, behind(behind(line, b' '), b' '));
+    let sum = identifier::letter_sum(text::front(&room, end));
     rt.write_all(before(line, b' '))?;
-    rt.write_all(b" ")?;
-    print!(rt; "{end}")?;
-    rt.write_all(b" ")?;
-    print!(rt; "{}", identifier::letter_sum(text::front(&room, end)))?;
-    rt.write_all(b"\n")
+    println!(rt; " {end} {sum}")
 }

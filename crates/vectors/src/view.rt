@@ -13,9 +13,7 @@ pub(crate) fn print(rt: &impl Print, line: &[u8]) -> io::Result<()> {
     let end = pieces::write(&mut room, behind(numbered, b' '));
     let field = fields::field(text::front(&room, end), number(before(numbered, b' ')));
     rt.write_all(before(line, b' '))?;
-    rt.write_all(b" ")?;
-    print!(rt; "{}", field.len())?;
-    rt.write_all(b":")?;
+    print!(rt; " {}:", field.len())?;
     rt.write_all(text::front(field, SHOWN))?;
     rt.write_all(b"\n")
 }
