@@ -50,7 +50,7 @@ position_least p (x ∷ xs) d q same =
     go false = omega arith
 
 -- the whole parts that std cuts a list into
-chunk_part : (size n : ℕ) (xs : List ℕ) (k : ℕ) (d : List ℕ) → k < n → get_or (first_chunks size n xs) k d ≡ part size k xs
+pub chunk_part : (size n : ℕ) (xs : List ℕ) (k : ℕ) (d : List ℕ) → k < n → get_or (first_chunks size n xs) k d ≡ part size k xs
 unfolding part
 chunk_part size zero xs k d h = absurd (not-suc-le-zero h)
 chunk_part size (suc n) xs zero d h = let none : 0 * size ≡ 0 = omega arith in rw none refl

@@ -19,7 +19,7 @@ use Rattle.text.specs.Bytes.{all}
 use Rattle.text.specs.Number.{number_at}
 use Rattle.text.proofs.ByteLaws.{all_get, all_split}
 use Rattle.ledger.specs.Row.{row_size, free, live, cancelled, cancellation, no_partner, state, filled_row, number, partner, row_form}
-use Rattle.ledger.specs.Sound.{Rows, rows_of, row_count, compartment_size, points_back, linked, precedes, sound_row}
+use Rattle.ledger.specs.Sound.{Rows, rows_of, row_count, compartment_size, points_back, linked, precedes, sound_row, FormAfterSound}
 use Rattle.ledger.proofs.FormLaws.{both_ways, same_words}
 use Rattle.ledger.proofs.SoundLaws.{row_length, filled_row_lem, earlier_filled}
 
@@ -52,20 +52,20 @@ unfolding sound_row
 sound_free ρ k e = rw e
 
 -- A filled row, and the sound and filled rows before it, whose numbers are compared by their words.
-module _ (c : List ℕ) (k : ℕ) (l : length c ≡ compartment_size) (h : k < row_count) (sound : every k (sound_row (rows_of c)) ≡ true)
-    (full : every k (λ j. filled_row (rows_of c j)) ≡ true) (form : row_form (rows_of c k) ≡ true) where
+module _ (c : List ℕ) (k : ℕ) (l : length c ≡ compartment_size) (a : FormAfterSound (rows_of c) k) where
   earlier_form : (j : ℕ) → j < k → row_form (rows_of c j) ≡ true
   earlier_form j m =
-      and_left (row_form (rows_of c j)) _ (sym (sound_filled (rows_of c) j (every_at k _ full j m)) ∙ every_at k _ sound j m)
+      and_left (row_form (rows_of c j)) _ (sym (sound_filled (rows_of c) j (every_at k _ a.after.filled j m)) ∙ every_at k _ a.after.sound j m)
 
   pub precedes_words : (j : ℕ) → j < k → {v w : List ℕ} {first second : ℕ} {r : Bool} → v ≡ rows_of c j → w ≡ rows_of c k
       → first ≡ number_at 8 2 w → second ≡ number_at 8 10 w → r ≡ (eqb (number_at 8 10 v) second && eqb (number_at 8 2 v) first)
       → precedes (rows_of c) (number (rows_of c k)) j ≡ not r
   unfolding precedes
   precedes_words j m {v} {w} {first} {second} {r} ev ew ef es er =
-      rw (every_at k (λ i. filled_row (rows_of c i)) full j m)
+      let inside : j < row_count = omega (arith, a.after.within) in
+      rw (every_at k (λ i. filled_row (rows_of c i)) a.after.filled j m)
       (ap not
-      (same_words (rows_of c j) (rows_of c k) (row_length c l j (omega arith)) (row_length c l k h) (earlier_form j m) form
+      (same_words (rows_of c j) (rows_of c k) (row_length c l j inside) (row_length c l k a.after.within) (earlier_form j m) a.form
       ∙ sym (er ∙ rw (ev, es, ef, ew))))
 
 all_later : (p : ℕ → Bool) (a b : ℕ) (s : List ℕ) → all p (drop a s) ≡ true → all p (drop (a + b) s) ≡ true

@@ -3,19 +3,20 @@
 use Prim.Native.Nat.{ℕ, ◌+◌, ◌-◌, ◌≤◌, ◌<◌, zero-le}
 use native.Mathlib.Decide.{ℕ_discrete, dec_lt}
 use native.Mathlib.Omega.{arith}
-use mathlib.Core.Bool.{Bool, true, false, ◌&&◌, ◌||◌, not}
+use mathlib.Core.Bool.{Bool, true, false, ◌&&◌}
 use mathlib.Core.List.{List}
 use mathlib.Core.Path.{◌≡◌, refl, ap, sym, ◌∙◌}
-use borrow.Author.Tests.{eq-eqb, ne_eqb, eqb-true, eqb-false}
+use borrow.Author.Tests.{eq-eqb, ne_eqb, eqb-false}
 use lib.Dec.{eqb}
 use lib.ListN.{length, get_or, drop, length-take}
 use lib.Seq.{get_or-take, get_or-drop}
-use Rattle.frame.proofs.BoolLaws.{and_false, or_false}
+use Rattle.frame.proofs.BoolLaws.{and_false}
+use Rattle.frame.specs.Every.{least}
 use Rattle.frame.proofs.LeastLaws.{least_is, least_none}
 use Rattle.text.proofs.ByteLaws.{same_true}
-use Rattle.ledger.specs.Row.{free, live, state, number, number_length}
-use Rattle.ledger.specs.Sound.{Rows, rows_of, row_count, compartment_size}
-use Rattle.ledger.specs.Lookup.{NoneIn, FirstFrom, is_asked, is_named, is_asked_row, first_row, row_by_number, live_row}
+use Rattle.ledger.specs.Row.{number, number_length}
+use Rattle.ledger.specs.Sound.{Rows, row_count, compartment_size}
+use Rattle.ledger.specs.Lookup.{NoneIn, FirstFrom, is_named, first_row}
 
 -- what a search from a row on knows: at its start, and after a row more that doesn't pass
 module _ (p : ℕ → Bool) (from : ℕ) where
@@ -42,22 +43,26 @@ module _ (a p : ℕ → Bool) where
       go (no n) = none_both (k + 1) to t j (omega arith) h
 
 -- what it has found in the end
-module _ (c : List ℕ) (p : ℕ → Bool) where
-  pub row_of_none : (length c ≡ compartment_size → ⊥) → row_count ≡ first_row c p
-  row_of_none n = rw (ne_eqb _ _ n)
+module _ (p : ℕ → Bool) where
+  pub row_found : (k : ℕ) → k < row_count → NoneIn p 0 k → p k ≡ true → k ≡ least row_count p
+  row_found k h f e = sym (least_is row_count p k h (λ j m. f j zero-le m) e)
 
-  pub row_found : (k : ℕ) → length c ≡ compartment_size → k < row_count → NoneIn p 0 k → p k ≡ true → k ≡ first_row c p
-  row_found k l h f e = rw (eq-eqb _ _ l) (sym (least_is row_count p k h (λ j m. f j zero-le m) e))
+  pub row_missing : (k : ℕ) → row_count ≤ k → NoneIn p 0 k → row_count ≡ least row_count p
+  row_missing k h f = sym (least_none row_count p (λ j m. f j zero-le (omega arith)))
 
-  pub row_missing : (k : ℕ) → length c ≡ compartment_size → row_count ≤ k → NoneIn p 0 k → row_count ≡ first_row c p
-  row_missing k l h f = rw (eq-eqb _ _ l) (sym (least_none row_count p (λ j m. f j zero-le (omega arith))))
-
-  pub row_first : (k : ℕ) → length c ≡ compartment_size → FirstFrom p 0 k → k ≡ first_row c p
-  row_first k l f = go (dec_lt k row_count)
+  pub row_first : (k : ℕ) → FirstFrom p 0 k → k ≡ least row_count p
+  row_first k f = go (dec_lt k row_count)
     where
-      go : Dec (k < row_count) → k ≡ first_row c p
-      go (yes h) = row_found k l h f.none (f.hit h)
-      go (no n) = let last : k ≡ row_count = omega (arith, n, f.within) in last ∙ row_missing k l (omega arith) f.none
+      go : Dec (k < row_count) → k ≡ least row_count p
+      go (yes h) = row_found k h f.none (f.hit h)
+      go (no n) = let last : k ≡ row_count = omega (arith, n, f.within) in last ∙ row_missing k (omega arith) f.none
+
+-- where a compartment has its length, and where it has not
+pub row_in_length : (c : List ℕ) (p : ℕ → Bool) → length c ≡ compartment_size → least row_count p ≡ first_row c p
+row_in_length c p l = rw (eq-eqb _ _ l) refl
+
+pub row_of_none : (c : List ℕ) (p : ℕ → Bool) → (length c ≡ compartment_size → ⊥) → row_count ≡ first_row c p
+row_of_none c p n = rw (ne_eqb _ _ n)
 
 -- the last byte of a row's number stands behind its length
 number_end : (w n : List ℕ) → number w ≡ n → 0 < length n → get_or w (length n + 1) 0 ≡ get_or n (length n - 1) 0
@@ -76,19 +81,3 @@ none_ending ρ n from to h f j g l = go (is_named ρ n j) refl
     go : (b : Bool) → is_named ρ n j ≡ b → b ≡ false
     go true e = absurd (eqb-false _ _ (f j g l) (number_end (ρ j) n (same_true (number (ρ j)) n e) h))
     go false e = refl
-
--- the two searches for a number ask for any filled row, and for a live one
-asked_filled : (s : ℕ) → is_asked true s ≡ not (eqb s free)
-asked_filled s = go (eqb s live) refl
-  where
-    go : (b : Bool) → eqb s live ≡ b → (b || not (eqb s free)) ≡ not (eqb s free)
-    go true e = let h : s ≡ live = eqb-true _ _ e in rw h refl
-    go false e = refl
-
-pub row_filled : (c n : List ℕ) → first_row c (is_asked_row true (rows_of c) n) ≡ row_by_number c n
-unfolding row_by_number
-row_filled c n i = first_row c (λ k. asked_filled (state (rows_of c k)) i && is_named (rows_of c) n k)
-
-pub row_live : (c n : List ℕ) → first_row c (is_asked_row false (rows_of c) n) ≡ live_row c n
-unfolding live_row
-row_live c n i = first_row c (λ k. or_false (eqb (state (rows_of c k)) live) i && is_named (rows_of c) n k)

@@ -1,8 +1,10 @@
 -- What is looked up in a compartment: the lowest free row, rows by their number. A compartment of another length has no row.
 -- Assumes nothing.
-use Rattle.std.specs.Prelude.{ℕ, ◌≤◌, ◌<◌, Bool, true, false, ◌&&◌, ◌||◌, not, cond, List, ◌≡◌, eqb, length}
+use Rattle.std.specs.Prelude.{ℕ, ◌≤◌, ◌<◌, Bool, true, false, ◌&&◌, not, cond, List, ◌≡◌, eqb, length}
 use Rattle.frame.specs.Every.{least}
 use Rattle.text.specs.Bytes.{same}
+use Rattle.ledger.specs.declared.Asked.{Asked}
+use Rattle.ledger.specs.declared.Asked.TheVariants.{Live, Filled}
 use Rattle.ledger.specs.Row.{free, live, state, filled_row, number}
 use Rattle.ledger.specs.Sound.{Rows, rows_of, row_count, compartment_size}
 
@@ -34,12 +36,13 @@ has_number ρ n k = filled_row (ρ k) && is_named ρ n k
 abbrev pub is_live : Rows → List ℕ → ℕ → Bool
 is_live ρ n k = eqb (state (ρ k)) live && is_named ρ n k
 
--- a state that a search for a number asks for: live, or with the flag any but free
-abbrev pub is_asked : Bool → ℕ → Bool
-is_asked any s = eqb s live || any && not (eqb s free)
+-- a state that a search for a number asks for: live, or any but free
+abbrev pub is_asked : Asked → ℕ → Bool
+is_asked Live s = eqb s live
+is_asked Filled s = not (eqb s free)
 
-abbrev pub is_asked_row : Bool → Rows → List ℕ → ℕ → Bool
-is_asked_row any ρ n k = is_asked any (state (ρ k)) && is_named ρ n k
+abbrev pub is_asked_row : Asked → Rows → List ℕ → ℕ → Bool
+is_asked_row asked ρ n k = is_asked asked (state (ρ k)) && is_named ρ n k
 
 -- the lowest free row
 unfoldable pub free_row : List ℕ → ℕ

@@ -1,6 +1,6 @@
 -- "Sound ledger" of document 01: what holds of each row, of a compartment and of the ledger.
 -- Assumes nothing.
-use Rattle.std.specs.Prelude.{ℕ, ◌*◌, Bool, ◌&&◌, not, cond, List, eqb, ltb, length}
+use Rattle.std.specs.Prelude.{ℕ, ◌*◌, ◌<◌, ◌≡◌, Bool, true, ◌&&◌, not, cond, List, eqb, ltb, length}
 use Rattle.frame.specs.Every.{every}
 use Rattle.frame.specs.Parts.{part}
 use Rattle.frame.specs.Reply.{unless}
@@ -50,6 +50,16 @@ precedes ρ n j = filled_row (ρ j) && not (same (number (ρ j)) n)
 -- a free row is all zero; a filled row has the form, follows filled rows with other numbers, and is linked as its state asks
 unfoldable pub sound_row : Rows → ℕ → Bool
 sound_row ρ k = cond (eqb (state (ρ k)) free) (all is_zero (ρ k)) (row_form (ρ k) && (every k (precedes ρ (number (ρ k))) && linked ρ k))
+
+-- row k is one of a compartment, after sound and filled rows; and it has the form besides
+pub record AfterSound (ρ : Rows) (k : ℕ) : Type 0 where
+  pub within : k < row_count
+  pub sound : every k (sound_row ρ) ≡ true
+  pub filled : every k (λ j. filled_row (ρ j)) ≡ true
+
+pub record FormAfterSound (ρ : Rows) (k : ℕ) : Type 0 where
+  pub after : AfterSound ρ k
+  pub form : row_form (ρ k) ≡ true
 
 unfoldable pub sound_compartment : List ℕ → Bool
 sound_compartment c = eqb (length c) compartment_size && every row_count (sound_row (rows_of c))

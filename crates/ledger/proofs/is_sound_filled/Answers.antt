@@ -5,19 +5,19 @@ use Rattle.ledger.proofs.is_sound_filled.Goals as goal
 
 pub is_other_number-requires : goal.is_other_number-requires
 is_other_number-requires c =
-    let form = ap row_form (sym c.row.ensures.0) ∙ sym c.is_row_form.ensures ∙ c.if-is_row_form.true in
-    record { c_len = c.requires.c_len; c_value = c.requires.c_value; k_value = form; fresh = c.requires.fresh }
+    let form = ap row_form (sym c.row.ensures) ∙ sym c.is_row_form.ensures ∙ c.if-is_row_form.true in
+    record { after = record { after = c.requires.after; form = form }; fresh = c.requires.fresh }
 
 pub returns-then-is_other_number : goal.returns-then-is_other_number
 returns-then-is_other_number c =
-    link_decides _ _ c.requires.k_value c.row.ensures.0 c.is_row_form.ensures c.if-is_row_form.true
+    link_decides _ _ c.requires.filled c.row.ensures c.is_row_form.ensures c.if-is_row_form.true
     c.is_other_number.ensures c.if-is_other_number.true c.is_linked.ensures
 
 pub returns-else-is_other_number : goal.returns-else-is_other_number
 returns-else-is_other_number c =
-    number_decides _ _ c.requires.k_value c.row.ensures.0 c.is_row_form.ensures c.if-is_row_form.true
+    number_decides _ _ c.requires.filled c.row.ensures c.is_row_form.ensures c.if-is_row_form.true
     c.is_other_number.ensures c.if-is_other_number.false
 
 pub returns-else-is_row_form : goal.returns-else-is_row_form
 returns-else-is_row_form c =
-    form_decides _ _ c.requires.k_value c.row.ensures.0 c.is_row_form.ensures c.if-is_row_form.false
+    form_decides _ _ c.requires.filled c.row.ensures c.is_row_form.ensures c.if-is_row_form.false
