@@ -207,10 +207,6 @@ module _ (tables : Tables) where
       pub number_none : fit ≡ true → 0 ≡ number
       number_none k = earlier_none (rules tables) (earlier_fits tables) 29 (booking call earlier) (ledger_flaw l) free (sym fit_earlier ∙ k)
 
-      pub booking_same : {o : Outcome (List ℕ) (List ℕ)} → fit ≡ true → o ≡ single (rules tables) call l
-          → o ≡ single (booking_rules tables) (booking call earlier) l
-      booking_same k q = q ∙ sym (booking_fits (booking call earlier) l (sym fit_earlier ∙ k))
-
     pub booking_refused : {k : ℕ} → k ≡ number → k ≢ 0 → record { reply = refused k; store = l } ≡ single (booking_rules tables) (booking call earlier) l
     booking_refused {k} q ne = sym (single_refused (booking_rules tables) (booking call earlier) l k (sym q) ne)
 

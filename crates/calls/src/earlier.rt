@@ -1,15 +1,16 @@
 // Booking by an earlier answer (document 02, Item 5): the record, its sender, and what judging answered before.
-ghost use Rattle.std.specs.Prelude.{◌≡◌};
+ghost use Rattle.std.specs.Prelude.{◌≡◌, IfOk};
 ghost use Rattle.frame.specs.Isolation.{single};
 ghost use Rattle.refusal.specs.Refusal.{number_in};
 ghost use Rattle.failures.specs.Failures.{before_booking};
 ghost use Rattle.tables.specs.Tables.{lent};
 ghost use Rattle.ledger.specs.Sound.{ledger_flaw};
 ghost use Rattle.calls.specs.Call.{sent};
+ghost use Rattle.calls.specs.CallSteps.{foreseen_by};
 ghost use Rattle.calls.specs.Judging.{booking, fits_failures, booking_rules};
 ghost use Rattle.calls.specs.Replied.{outcome};
 
-use crate::judging::judged;
+use crate::judging::{Foreseen, judged};
 use crate::{Call, refusal, settle};
 use answer::Answer;
 use failures::Failures;
@@ -27,6 +28,19 @@ fn fits(earlier: &[u8], failed: Failures) -> bool
     told.failed.before_booking() == failed.before_booking()
 }
 
+// Refusals 2, 3, 4, 13, 14, 29 in that order; else what a record comes to on the ledger as it is, judged again.
+fn fitting(tables: Tables, ledger: &[u8], call: Call, earlier: &[u8]) -> Result<Foreseen, Refusal>
+    ensures number { number_in result ≡ (booking_rules (lent tables.entry)).refusal (booking (sent call.entry) earlier.now) (ledger_flaw ledger.now) }
+    ensures foreseen { IfOk result (λ foreseen. foreseen ≡ foreseen_by (lent tables.entry) (sent call.entry) ledger.now) }
+{
+    refusal(tables, ledger, call)?;
+    let foreseen = judged(tables, ledger, call);
+    if !fits(earlier, foreseen.answer.failed) {
+        return Err(Refusal::EarlierAnswer);
+    }
+    Ok(foreseen)
+}
+
 // Why a booking is refused: 2, 3, 4, 13, 14, 29, the first that applies.
 pub fn booking_refusal(
     tables: Tables,
@@ -36,13 +50,8 @@ pub fn booking_refusal(
 ) -> Result<(), Refusal>
     ensures { number_in result ≡ (booking_rules (lent tables.entry)).refusal (booking (sent call.entry) earlier.now) (ledger_flaw ledger.now) }
 {
-    refusal(tables, ledger, call)?;
-    let foreseen = judged(tables, ledger, call);
-    if fits(earlier, foreseen.answer.failed) {
-        Ok(())
-    } else {
-        Err(Refusal::EarlierAnswer)
-    }
+    fitting(tables, ledger, call, earlier)?;
+    Ok(())
 }
 
 // Booking: refusals 2, 3, 4, 13, 14, 29 in that order; then the old call's answer and effect on the ledger as it is. Places 61 to 63 are judged again.
@@ -54,11 +63,7 @@ pub fn book_call(
 ) -> Result<Answer, Refusal>
     ensures { outcome result ledger.new ≡ single (booking_rules (lent tables.entry)) (booking (sent call.entry) earlier.now) ledger.old }
 {
-    refusal(tables, ledger, call)?;
-    let foreseen = judged(tables, ledger, call);
-    if !fits(earlier, foreseen.answer.failed) {
-        return Err(Refusal::EarlierAnswer);
-    }
+    let foreseen = fitting(tables, ledger, call, earlier)?;
     settle(ledger, foreseen, call.record);
     Ok(foreseen.answer)
 }
