@@ -34,9 +34,7 @@ fn days_in(year: u64, month: u64) -> u64
     ensures { result ≡ days_in year month }
 {
     match month {
-        2 => {
-            if year % 4 == 0 { 29 } else { 28 }
-        }
+        2 => { if year % 4 == 0 { 29 } else { 28 } }
         4 | 6 | 9 | 11 => 30,
         _ => 31,
     }

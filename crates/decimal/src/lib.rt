@@ -9,6 +9,7 @@ ghost use Rattle.decimal.specs.Decimal.{digits_up_to, digits_value, amount_of, w
 use text::Class;
 
 // A value, in units of the last place behind the comma that the form allows; and whether it is zero.
+// As it is: document 02, Item 4, has the reader tell it, and theorem zero_told speaks of the field.
 #[derive(Clone, Copy)]
 pub struct Amount {
     pub value: u64,
@@ -39,6 +40,7 @@ const POWERS: [u64; 20] = [
 ];
 
 // 10 to the n-th power.
+// As it is: `10u64.pow(..)` takes some 7 instructions more for each decimal of a record, by callgrind.
 fn power(n: usize) -> u64
     requires { n ≤ 19 }
     ensures { result ≡ 10 ^ n }

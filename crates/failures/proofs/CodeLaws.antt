@@ -1,19 +1,18 @@
 -- The rule of the table of codes, proved by one test that is computed over it.
 -- Assumes nothing.
-use Prim.Native.Nat.{ℕ, ◌+◌, ◌≤◌, ◌<◌}
-use native.Mathlib.Numerals.{add-one}
+use Prim.Native.Nat.{ℕ, ◌≤◌, ◌<◌}
 use native.Mathlib.Decide.{dec_lt}
 use native.Mathlib.Omega.{arith}
 use mathlib.Core.Bool.{Bool, true, false, ◌&&◌, not, false≢true}
 use mathlib.Core.Logic.{◌≢◌}
 use mathlib.Core.Path.{◌≡◌, refl, ap, sym, ◌∙◌}
-use borrow.Author.Tests.{ltb-true, leb-true, eq-eqb, ne_eqb}
+use borrow.Author.Tests.{ltb-true, leb-true, ne_eqb}
 use lib.Dec.{eqb, leb, ltb, lit≤}
 use lib.ListN.{get_or-eq_default}
 use Rattle.std.specs.List.{list_all}
 use Rattle.frame.specs.Every.{every}
 use Rattle.frame.proofs.ListLaws.{list_all_front}
-use Rattle.frame.proofs.BoolLaws.{and_left, and_right, and_intro, and_goes}
+use Rattle.frame.proofs.BoolLaws.{and_left, and_right, and_intro}
 use Rattle.frame.proofs.EveryLaws.{every_at, every_intro}
 use Rattle.failures.specs.Codes.{codes, code_at, is_no_code}
 

@@ -1,17 +1,14 @@
 -- Laws of the sum over an ISIN: worked out letter by letter it is the sum over the digits, whatever the text and its length; what a value adds, up to a
 -- multiple of 10; and what a walk over the letters keeps, from the last to the first.
 -- Assumes nothing.
-use Prim.Native.Nat.{ℕ, zero, suc, ◌+◌, ◌-◌, ◌*◌, ◌/◌, ◌%◌, ◌<◌, ◌≤◌}
+use Prim.Native.Nat.{ℕ, ◌+◌, ◌-◌, ◌*◌, ◌/◌, ◌%◌, ◌<◌, ◌≤◌}
 use mathlib.Core.Bool.{Bool, true, false, not, cond}
 use mathlib.Core.List.{List, [], ◌∷◌, ◌++◌, reverse, reverse-append, append-nil, append_assoc}
 use mathlib.Core.Path.{◌≡◌, refl, ap, sym, ◌∙◌}
-use native.Mathlib.Nat.{not-suc-le-zero}
-use native.Mathlib.Numerals.{sub-one}
 use native.Mathlib.Omega.{arith}
 use borrow.Author.Tests.{leb-true}
 use lib.Dec.{leb, eqb}
 use lib.ListN.{length, get_or, take}
-use lib.Seq.{take-suc, take-length}
 use Rattle.frame.proofs.BoolLaws.{and_left, and_right}
 use Rattle.text.specs.Class.{is_digit, is_capital, is_capital_or_digit}
 use Rattle.text.specs.Bytes.{all}

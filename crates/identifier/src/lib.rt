@@ -24,8 +24,7 @@ pub fn is_swift(s: &[u8]) -> bool
     ensures { result ≡ swift_form s.now }
 {
     matches!(s.len(), 8 | 11)
-        && (text::all(Class::Capital, &s[..6])
-            & text::all(Class::CapitalOrDigit, &s[6..]))
+        && (text::all(Class::Capital, &s[..6]) & text::all(Class::CapitalOrDigit, &s[6..]))
 }
 
 // Whether t is s, an address of eight bytes, with XXX added.
