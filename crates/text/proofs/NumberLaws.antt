@@ -163,8 +163,8 @@ pub front_stays : (n x : ℕ) (s : List ℕ) → length s < n → s ≡ number_p
 unfolding number_put
 front_stays n x s h = let out : length s < 0 + n = omega arith in rw (lt-leb _ _ out)
 
-pub front_put : (n x : ℕ) (s : List ℕ) → n ≤ length s → bytes_low_first 0 n x ++ drop n s ≡ number_put n 0 x s
+pub front_put : (n x : ℕ) (s ys : List ℕ) → n ≤ length s → ys ≡ bytes_low_first 0 n x → ys ++ drop n s ≡ number_put n 0 x s
 unfolding number_put
-front_put n x s h =
+front_put n x s ys h e =
     let enough : 0 + n ≤ length s = omega arith in
-    rw (le-leb _ _ enough) (ap (λ (l : List ℕ). l ++ drop n s) (low_from 0 n x ∙ ap (low_bytes n) (div-one x)))
+    rw (le-leb _ _ enough) (ap (λ (l : List ℕ). l ++ drop n s) (e ∙ low_from 0 n x ∙ ap (low_bytes n) (div-one x)))

@@ -1,17 +1,12 @@
 // Bytes and slices of them: classes, comparison, search, parts, numbers as bytes.
 #![tactic(auto)]
 
-ghost use Rattle.std.specs.Prelude.{◌≡◌, ◌≤◌, ◌<◌, ◌^◌, eqb, length, take, drop};
-ghost use Rattle.std.specs.Prelude.{ℕ};
-ghost use Rattle.std.proofs.Common.{rules};
+ghost use Rattle.std.specs.Prelude.{◌≡◌, ℕ, eqb, length, take, drop};
 ghost use Rattle.frame.specs.Every.{within};
-ghost use Rattle.text.specs.Class.{belongs_to, is_digit, is_capital, is_word_byte, is_record_byte, is_text_byte, is_zero};
-ghost use Rattle.text.specs.Bytes.{all as all_of, same as same_bytes, position_of};
+ghost use Rattle.text.specs.Class.{belongs_to, is_word_byte, is_record_byte, is_text_byte, is_zero};
+ghost use Rattle.text.specs.Bytes.{all as all_of, position_of};
 ghost use Rattle.text.specs.Part.{Lies, rest_start};
-ghost use Rattle.text.specs.Order.{order_of};
-ghost use Rattle.text.specs.Number.{little_endian, big_endian, low_bytes, number_at, number_put};
-
-use std::cmp::Ordering;
+ghost use Rattle.text.specs.Number.{big_endian, number_at, number_put};
 
 // The bytes that are tested for zeros at once: a loop over a count that is known is compiled to wide steps.
 const ZERO_BLOCK: usize = 1024;
@@ -139,13 +134,6 @@ pub fn belongs(c: Class, b: u8) -> bool
     }
 }
 
-// A byte as a wider number.
-pub fn wide(b: u8) -> u64
-    ensures { (result ≡ b) × (result < 256) }
-{
-    u64::from(b)
-}
-
 // 0 for a byte of the class c, and for no other.
 fn mark(c: Class, b: u8) -> u8
     ensures { eqb result 0 ≡ belongs_to c b }
@@ -165,22 +153,6 @@ pub fn all(c: Class, s: &[u8]) -> bool
         marks |= mark(c, *b);
     }
     marks == 0
-}
-
-// Whether a and b hold the same bytes; the last are compared first, since numbers and bank codes begin alike.
-#[tactic(auto, using(crate::proofs::SameLaws::eq_same))]
-pub fn same(a: &[u8], b: &[u8]) -> bool
-    ensures { result ≡ same_bytes a.now b.now }
-{
-    a == b
-}
-
-// How a stands to b in the order of their bytes, the first that differs deciding; a beginning comes before the whole.
-#[tactic(auto, using(crate::proofs::SameLaws::cmp_order))]
-pub fn compare(a: &[u8], b: &[u8]) -> Ordering
-    ensures { result ≡ order_of a.now b.now }
-{
-    a.cmp(&b)
 }
 
 // Where b first stands in s, if it does.
@@ -231,42 +203,6 @@ pub fn write<W: Word>(s: &mut [u8], at: usize, x: W)
     if at <= s.len() {
         x.write_first(&mut s[at..]);
     }
-}
-
-pub fn read_u16(s: &[u8], at: usize) -> u16
-    ensures { result ≡ number_at 2 at s.now }
-{
-    read(s, at)
-}
-
-pub fn read_u32(s: &[u8], at: usize) -> u32
-    ensures { result ≡ number_at 4 at s.now }
-{
-    read(s, at)
-}
-
-pub fn read_u64(s: &[u8], at: usize) -> u64
-    ensures { result ≡ number_at 8 at s.now }
-{
-    read(s, at)
-}
-
-pub fn write_u16(s: &mut [u8], at: usize, x: u16)
-    ensures { s.new ≡ number_put 2 at x s.old }
-{
-    write(s, at, x);
-}
-
-pub fn write_u32(s: &mut [u8], at: usize, x: u32)
-    ensures { s.new ≡ number_put 4 at x s.old }
-{
-    write(s, at, x);
-}
-
-pub fn write_u64(s: &mut [u8], at: usize, x: u64)
-    ensures { s.new ≡ number_put 8 at x s.old }
-{
-    write(s, at, x);
 }
 
 // Whether the bytes of s are all zero, block by block.

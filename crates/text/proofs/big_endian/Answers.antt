@@ -19,18 +19,18 @@ fits w number i byte h inside short = below_power 255 {n = 8} (more w number i b
 
 pub loop-b-init : goal.loop-b-init
 loop-b-init c =
-    let short : length c.front-w.result.now ≤ 8 = omega (arith, ap length c.front-w.ensures.bytes, length-take 8 c.args.s.now) in
+    let short : length c.front-w.result.now ≤ 8 = omega (arith, ap length c.front-w.ensures.bytes, length-take {A = ℕ}) in
     (short, big_none, lit< tt)
 
 pub overflow_mul-number : goal.overflow_mul-number
 overflow_mul-number c =
     let l = c.loop-b in
-    record { fits = omega (arith, (fits _ l.number l.b-index (c.type_inv.w l.b-index).fits l.invariant.2 c.loop-b-test.true l.invariant.0)) }
+    record { fits = omega (arith, fits _ l.number l.b-index (c.type_inv.w l.b-index).fits l.invariant.2 c.loop-b-test.true l.invariant.0) }
 
 pub overflow_add-number : goal.overflow_add-number
 overflow_add-number c =
     let l = c.loop-b in
-    record { fits = rw c.from.ensures (fits _ l.number l.b-index (c.type_inv.w l.b-index).fits l.invariant.2 c.loop-b-test.true l.invariant.0) }
+    record { fits = omega (arith, fits _ l.number l.b-index (c.type_inv.w l.b-index).fits l.invariant.2 c.loop-b-test.true l.invariant.0) }
 
 pub loop-b-preserved : goal.loop-b-preserved
 loop-b-preserved c =
