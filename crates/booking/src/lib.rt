@@ -12,24 +12,15 @@ use ledger::{
     ZEROS_PLACE,
 };
 
-// Byte i of the sixteen that hold a number: of the number, or a zero after it.
-fn padded_byte(n: &[u8], i: usize) -> u8
-    requires { i < number_room }
-    ensures { result ≡ get_or (padded n.now) i 0 }
-{
-    if i < n.len() { n[i] } else { 0 }
-}
-
 // Writes a number and the zeros after it into its sixteen bytes.
+#[tactic(auto, unfolding(crate::specs::Booking::padded))]
 fn put_number(w: &mut [u8], n: &[u8])
     requires { (length w.old ≡ number_room) × (length n.now ≤ number_room) }
     ensures { w.new ≡ padded n.now }
 {
-    let mut i = 0;
-    while i < NUMBER_ROOM {
-        w[i] = padded_byte(n, i);
-        i += 1;
-    }
+    let (number, zeros) = w.split_at_mut(n.len());
+    number.copy_from_slice(n);
+    zeros.fill(0);
 }
 
 // Makes a row live with the number n, the quantity q and the side s, and with no partner.
@@ -37,15 +28,13 @@ fn fill_row(w: &mut [u8], n: &[u8], q: u64, s: u8)
     requires { (length w.old ≡ row_size) × (length n.now ≤ number_room) }
     ensures { w.new ≡ new_row n.now q s }
 {
+    w[ZEROS_PLACE..].fill(0);
     w[STATE_PLACE] = LIVE;
     w[LENGTH_PLACE] = n.len() as u8;
     w[SIDE_PLACE] = s;
-    w[ZEROS_PLACE] = 0;
-    w[ZEROS_PLACE + 1] = 0;
-    w[ZEROS_PLACE + 2] = 0;
     put_number(&mut w[NUMBER_PLACE..QUANTITY_PLACE], n);
-    text::write_u64(w, QUANTITY_PLACE, q);
-    text::write_u16(w, PARTNER_PLACE, NO_PARTNER);
+    text::write(w, QUANTITY_PLACE, q);
+    text::write(w, PARTNER_PLACE, NO_PARTNER);
 }
 
 // Gives a row another state and the partner p.
@@ -54,7 +43,7 @@ fn relink(w: &mut [u8], state: u8, p: usize)
     ensures { w.new ≡ relinked state p w.old }
 {
     w[STATE_PLACE] = state;
-    text::write_u16(w, PARTNER_PLACE, p as u16);
+    text::write(w, PARTNER_PLACE, p as u16);
 }
 
 // Enters a new live row in row f.
@@ -87,6 +76,7 @@ fn cancel(c: &mut [u8], f: usize, p: usize)
 }
 
 // Whether a booking can be made: the compartment has its length, f is one of its rows, and the number has room.
+#[tactic(auto, unfolding(crate::specs::Booking::can_book))]
 fn can_book(c: &[u8], f: usize, n: &[u8]) -> bool
     ensures { result ≡ can_book f n.now c.now }
 {

@@ -6,7 +6,7 @@ use Rattle.booking.proofs.relink.Goals as goal
 
 pub returns : goal.returns
 unfolding relinked
-returns c = c.write_u16.ensures
+returns c = c.write.ensures
 
 pub shape_of-w : goal.shape_of-w
 shape_of-w c =
