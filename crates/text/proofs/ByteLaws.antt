@@ -10,7 +10,7 @@ use native.Mathlib.Omega.{arith}
 use borrow.Author.Tests.{eq-eqb, ne_eqb, eqb-true, eqb-false, leb-true}
 use lib.Bits.{bit_or, or_zero_l, or_add_and, and_le_r}
 use lib.Dec.{eqb, leb, ltb}
-use lib.ListN.{length, get_or, take, drop, drop_of_length-le, take-append-drop}
+use lib.ListN.{length, get_or, take, drop, length-drop, drop_of_length-le, take-append-drop}
 use lib.Seq.{drop-cons, drop-drop, drop_at, take_all, take-add, take-take, get_or-take, length-take-le}
 use Rattle.std.specs.List.{list_all}
 use Rattle.std.specs.Simd.{first_chunks}
@@ -154,6 +154,10 @@ unfolding same
 same_split [] b s h = refl
 same_split (x ∷ a) b [] h = absurd (not-suc-le-zero h)
 same_split (x ∷ a) b (y ∷ s) h = sym (and_assoc (eqb x y) _ _) ∙ ap (λ (t : Bool). eqb x y && t) (same_split a b s (le_of_suc-le-suc h))
+
+-- what `&s[a..]` holds
+pub take_rest : (a : ℕ) (s : List ℕ) → take (length s - a) (drop a s) ≡ drop a s
+take_rest a s = take_all _ _ (le_of_eq (length-drop a s))
 
 -- two texts that begin alike up to a place have the same bytes and the same parts before it
 module _ (m : ℕ) (s t : List ℕ) (e : take m s ≡ take m t) where
