@@ -21,10 +21,6 @@ pub with_nothing : (p : Lent) → with_text p [] ≡ p
 unfolding with_text appended
 with_nothing p = refl
 
--- a text, and one more behind it
-pub with_on : (p : Lent) (s t : List ℕ) {q r : Lent} → q ≡ with_text p s → r ≡ with_text q t → r ≡ with_text p (s ++ t)
-with_on p s t e f = f ∙ (ap (λ (x : Lent). with_text x t) e ∙ with_both p s t)
-
 -- what its lender finds in the buffer when the page is done with
 pub left_by : (p : Lent) (t : List ℕ) {q : Lent} {out : List ℕ} → q ≡ with_text p t
     → (p.room.ghost_name ≡ q.room.ghost_name → out ≡ q.room.now) → page out q.end ≡ appended (page_of p) t

@@ -21,10 +21,6 @@ unfolding appended
 appended_both p [] t = refl
 appended_both p (b ∷ s) t = appended_both (typed p b) s t
 
--- a text, and one more behind it
-pub appended_on : (p : Page) (s t : List ℕ) {q r : Page} → q ≡ appended p s → r ≡ appended q t → r ≡ appended p (s ++ t)
-appended_on p s t e f = f ∙ (ap (λ (x : Page). appended x t) e ∙ appended_both p s t)
-
 -- a page stays as long as it is
 typed_length : (p : Page) (b : ℕ) → length (typed p b).buffer ≡ length p.buffer
 typed_length p b = go (ltb p.end (length p.buffer))

@@ -16,6 +16,7 @@ pub struct Page<'a> {
 
 impl Page<'_> {
     // Writes a piece behind the text, as far as there is room.
+    #[tactic(auto, using(crate::proofs::LentLaws::with_none, crate::proofs::LentLaws::with_cut))]
     pub fn append(&mut self, piece: &[u8])
         ensures { self.new ≡ with_text self.old piece.now }
     {
@@ -27,6 +28,7 @@ impl Page<'_> {
     }
 
     // Writes a number in as many decimal digits as it has.
+    #[tactic(auto, using(crate::proofs::NumberLaws::number_digits))]
     pub fn append_number(&mut self, n: u64)
         ensures { self.new ≡ with_text self.old (number_text n) }
     {
@@ -36,6 +38,7 @@ impl Page<'_> {
     }
 
     // Writes a code in four decimal digits.
+    #[tactic(auto, unfolding(crate::specs::Number::code_text))]
     pub fn append_code(&mut self, code: u16)
         ensures { self.new ≡ with_text self.old (code_text code) }
     {

@@ -26,6 +26,7 @@ pub fn behind(s: &[u8], b: u8) -> &[u8]
 }
 
 // The place behind the first byte b from a place on; the end of s where there is none.
+#[tactic(auto, using(crate::proofs::LineLaws::behind_within), unfolding(crate::specs::Words::next_place))]
 pub fn next(s: &[u8], at: usize, b: u8) -> usize
     ensures { result ≡ next_place b at s.now }
 {
