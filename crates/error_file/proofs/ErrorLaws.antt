@@ -9,10 +9,14 @@ use mathlib.Core.Logic.{◌≢◌}
 use mathlib.Core.Path.{◌≡◌, refl, ap, sym, ◌∙◌}
 use borrow.Author.Tests.{le-leb, lt-leb, eqb-true, not-true}
 use lib.Dec.{eqb, leb}
-use lib.ListN.{length, length-take, length-drop}
+use lib.ListN.{length, get_or, take, length-take, length-drop}
 use Rattle.frame.specs.Every.{every}
-use Rattle.frame.specs.Reply.{refused, accepted, refusal_in, unless, first_of}
+use Rattle.frame.specs.Reply.{refused, accepted, unless, first_of}
 use Rattle.frame.proofs.BoolLaws.{and_left, and_right}
+use Rattle.std.specs.List.{list_all, range_with_len}
+use Rattle.std.proofs.lemmas.List.FromFn.{length-range_with_len, get_or-range_with_len}
+use lib.Seq.{take_all}
+use Rattle.frame.proofs.ListLaws.{list_all_front}
 use Rattle.frame.proofs.EveryLaws.{every_at, every_same}
 use Rattle.frame.proofs.ReplyLaws.{unless_none, first_none, past_refused, past_none, past_holds, past_fails}
 use Rattle.text.specs.Text.{bytes}
@@ -21,16 +25,19 @@ use Rattle.failures.specs.Codes.{is_no_code}
 use Rattle.failures.proofs.CodeLaws.{code_known}
 use Rattle.answer.specs.Answer.{answer_size}
 use Rattle.envelope.specs.declared.Layout.{Layout}
-use Rattle.envelope.specs.declared.Opened.{Opened}
-use Rattle.envelope.specs.declared.Opened.TheVariants.{Refused}
+use Rattle.std.specs.Prelude.{Result, Err}
+use Rattle.refusal.specs.declared.Refusal.{Refusal}
+use Rattle.refusal.specs.Refusal.{number_of}
 use Rattle.envelope.specs.Pieces.{between}
 use Rattle.envelope.specs.Envelope.{file_limit, report_of, opened_as, sender_of, control_word_of, records_from}
 use Rattle.envelope.specs.Written.{lines_then}
 use Rattle.envelope.proofs.OpenedLaws.{Whole}
-use Rattle.page.specs.Page.{Page, appended, WriteOutcome, write_outcome, wrote_into, fitted}
-use Rattle.page.proofs.PageLaws.{appended_both}
+use Rattle.page.specs.declared.Page.{Page as Lent}
+use Rattle.page.specs.Lent.{with_text}
+use Rattle.page.specs.Page.{WriteOutcome, write_outcome, wrote_into, fitted}
+use Rattle.page.proofs.LentLaws.{with_both}
 use Rattle.texts.specs.Texts.{code_count, texts_ok}
-use Rattle.texts.specs.Index.{index_of, is_listed, names_row}
+use Rattle.texts.specs.Index.{index_of, is_listed}
 use Rattle.texts.proofs.IndexLaws.{index_listed, index_holds}
 use Rattle.enclosing.specs.Enclosing.{head_text, tail_text}
 use Rattle.enclosing.proofs.EnclosingLaws.{written_pieces, written_length}
@@ -38,10 +45,14 @@ use Rattle.error_file.specs.ErrorFile.{code_in, known_code, answers_ok, has_text
 use Rattle.error_file.specs.ErrorFile.{error_text, error_flaw, error_for, error_file_of}
 use Rattle.error_file.specs.Steps.{is_named, Lined}
 
--- whether a code is named, as the loop over the answers asks it
-pub named_by : (rows answers : List ℕ) (k : ℕ) {code : ℕ} {held : Bool} → code ≡ code_in answers k → held ≡ names_row rows code
-    → is_named rows answers k ≡ (eqb code 0 || held)
-named_by rows answers k e f = rw (f, e) refl
+-- a test of the numbers below n, in the words of the library
+pub every_below : (n : ℕ) (p : ℕ → Bool) → list_all p (range_with_len 0 n) ≡ every n p
+every_below n p =
+    let size : length (range_with_len 0 n) ≡ n = length-range_with_len 0 n in
+    let whole : take n (range_with_len 0 n) ≡ range_with_len 0 n = take_all n (range_with_len 0 n) (omega (arith, size)) in
+    let number : (k : ℕ) → k < length (range_with_len 0 n) → p k ≡ p (get_or (range_with_len 0 n) k 0)
+    = λ k h. ap p (sym (get_or-range_with_len 0 n k 0 (omega (arith, size)) ∙ zero-add k)) in
+    ap (list_all p) (sym whole) ∙ list_all_front p (range_with_len 0 n) 0 p number n (omega (arith, size))
 
 -- the answers of a report have codes of four digits
 known_code_lem : (n : ℕ) (answers : List ℕ) → answers_ok n answers ≡ true → (k : ℕ) → k < n → code_in answers k < code_count
@@ -130,11 +141,11 @@ module _ (member ours answers date time : List ℕ) where
   error_length sender word rs d t = omega (arith, d, t, written_length (error_envelope member ours answers date time sender word rs))
 
   -- its head, its lines and its tail, written one behind another
-  pub error_written : (sender word : List ℕ) (rs : List (List ℕ)) (o : Page) {p q r : Page}
-      → p ≡ appended o (head_text (bytes "ATBWA") sender date time word error_class) → q ≡ appended p (lines_then (error_lines member ours answers 0 rs) [])
-      → r ≡ appended q (tail_text word) → r ≡ appended o (error_text member ours answers date time sender word rs)
+  pub error_written : (sender word : List ℕ) (rs : List (List ℕ)) (o : Lent) {p q r : Lent}
+      → p ≡ with_text o (head_text (bytes "ATBWA") sender date time word error_class) → q ≡ with_text p (lines_then (error_lines member ours answers 0 rs) [])
+      → r ≡ with_text q (tail_text word) → r ≡ with_text o (error_text member ours answers date time sender word rs)
   error_written sender word rs o e f g =
-      g ∙ rw (f, e) (simp appended_both (ap (appended o) (written_pieces (error_envelope member ours answers date time sender word rs))))
+      g ∙ rw (f, e) (simp with_both (ap (with_text o) (written_pieces (error_envelope member ours answers date time sender word rs))))
 
   -- The body of a report to which none of them applies.
   pub report_lined : (report : List ℕ) (l : Layout) → Whole report l → length report ≤ file_limit → Free l.records
@@ -166,10 +177,10 @@ module _ (member ours answers date time : List ℕ) where
       unfolding error_file_of
       read_on = past_holds 1 _ (le-leb _ _ short)
 
-      pub error_unopened : {o : Opened} {n r : ℕ} → opened_as o ≡ report_of report → o ≡ Refused n → r ≡ refusal_in (opened_as o)
-          → write_outcome (refused r) out ≡ due
+      pub error_unopened : {o : Result Layout Refusal} {why : Refusal} → opened_as o ≡ report_of report → o ≡ Err why
+          → write_outcome (refused (number_of why)) out ≡ due
       unfolding wrote_into
-      error_unopened q e h = rw (read_on, ← q, h, e) refl
+      error_unopened q e = rw (read_on, ← q, e) refl
 
       module _ (l : Layout) (e : report_of report ≡ accepted l) where
         pub error_flawed : {n : ℕ} → n ≡ error_flaw member ours answers date time l.records → n ≢ 0 → write_outcome (refused n) out ≡ due

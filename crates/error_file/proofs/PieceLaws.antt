@@ -1,11 +1,11 @@
 -- Laws of what is written for the records of a body, one after another.
 -- Assumes nothing.
 use Prim.Native.Nat.{ℕ, suc, ◌+◌, ◌-◌, ◌*◌, ◌≤◌, ◌<◌}
-use native.Mathlib.Decide.{ℕ_discrete}
+use native.Mathlib.Decide.{dec_lt, ℕ_discrete}
 use native.Mathlib.Nat.{zero-add}
 use native.Mathlib.Numerals.{add-one}
 use native.Mathlib.Omega.{arith}
-use mathlib.Core.Bool.{Bool, true, false, cond}
+use mathlib.Core.Bool.{Bool, true, false, ◌&&◌, cond}
 use mathlib.Core.List.{List, [], ◌∷◌, ◌++◌, append_assoc}
 use mathlib.Core.Path.{◌≡◌, refl, ap, sym, ◌∙◌, subst}
 use denote.Ref.{Bor}
@@ -17,27 +17,38 @@ use Rattle.frame.proofs.EveryLaws.{every_at}
 use Rattle.text.specs.Text.{bytes}
 use Rattle.failures.specs.Codes.{is_no_code}
 use Rattle.failures.proofs.CodeLaws.{code_known}
-use Rattle.envelope.specs.declared.Piece.TheVariants.{EndsAt, Missing}
+use Rattle.std.specs.Prelude.{Some, None}
 use Rattle.envelope.specs.Body.{crlf, records_of, record_at, line_end}
 use Rattle.envelope.specs.Envelope.{record_count_limit, listed}
 use Rattle.envelope.specs.Written.{lines_then}
 use Rattle.envelope.proofs.LineLaws.{line_placed, line_bytes, line_there, lines_split, lines_end}
 use Rattle.page.specs.Number.{code_text}
-use Rattle.page.specs.Page.{Page, page, appended}
+use Rattle.page.specs.declared.Page.{Page}
+use Rattle.page.specs.Lent.{with_text}
 use Rattle.page.proofs.NumberLaws.{code_length}
-use Rattle.page.proofs.PageLaws.{appended_both, appended_length}
-use Rattle.texts.specs.Texts.{code_count, text_of}
-use Rattle.texts.specs.Index.{entry_in, HandedBy}
+use Rattle.page.proofs.LentLaws.{with_both, with_nothing}
+use Rattle.texts.specs.Texts.{code_count, texts_ok, text_of}
+use Rattle.texts.specs.Index.{index_of, entry_in, HandedBy}
 use Rattle.texts.proofs.HandedLaws.{text_from, text_short}
 use Rattle.error_file.specs.ErrorFile.{code_in, known_code, code_line, error_lines}
-use Rattle.error_file.specs.Steps.{Indexed, piece, pieces_from, Lined}
+use Rattle.error_file.specs.Steps.{piece, pieces_from, Lined}
 
 -- a body as its records stand in it, from one line to the next
-module _ (answers body : List ℕ) (k at : ℕ) (h : Lined answers body k at) (more : at < length body) where
-  pub lined_there : line_end body at ≡ Missing → ⊥
-  lined_there = line_there body at more h.whole
+pub lined_done : (answers body : List ℕ) (k at : ℕ) → Lined answers body k at → line_end body at ≡ None → length body ≤ at
+lined_done answers body k at h e = go (dec_lt at (length body))
+  where
+    go : Dec (at < length body) → length body ≤ at
+    go (yes more) = absurd (line_there body at more h.whole e)
+    go (no n) = omega arith
 
-  module _ (next : ℕ) (e : line_end body at ≡ EndsAt next) where
+lined_more_there : (answers body : List ℕ) (k at : ℕ) → Lined answers body k at → (next : ℕ) → line_end body at ≡ Some next → at < length body
+lined_more_there answers body k at h next e = let p = line_placed body at next h.within e in omega (arith, p.0, p.1)
+
+module _ (answers body : List ℕ) (k at : ℕ) (h : Lined answers body k at) where
+  module _ (next : ℕ) (e : line_end body at ≡ Some next) where
+    more : at < length body
+    more = lined_more_there answers body k at h next e
+
     pub lined_placed : (at < next) × (next ≤ length body)
     lined_placed = let p = line_placed body at next (omega arith) e in (omega (arith, p.0), p.1)
 
@@ -88,11 +99,11 @@ module _ (member ours : List ℕ) where
       go false = joined r crlf (code_text code) (bytes "-") (text_of member ours code) (lines_then rest [])
 
   module _ (answers body : List ℕ) (k at : ℕ) (h : Lined answers body k at) where
-    pub pieces_more : (next : ℕ) → at < length body → line_end body at ≡ EndsAt next
+    pub pieces_more : (next : ℕ) → line_end body at ≡ Some next
         → pieces_from member ours answers body k at
         ≡ piece member ours (code_in answers k) (take (next - at) (drop at body)) ++ pieces_from member ours answers body (k + 1) next
-    pieces_more next more e =
-        let split = (lines_split body at more h.whole next e).1 in
+    pieces_more next e =
+        let split = (lines_split body at (lined_more_there answers body k at h next e) h.whole next e).1 in
         ap (λ (rs : List (List ℕ)). lines_then (error_lines member ours answers k rs) []) split
         ∙ pieces_record answers k (record_at body at) (listed (records_of (drop next body)))
         ∙ rw (line_bytes body at next e, add-one k) refl
@@ -122,10 +133,10 @@ module _ (member ours : List ℕ) where
       go (no ne) = omega (arith, piece_length code line ne, text_short member ours code)
 
 -- the text that was handed out by the index of two lists in order is the one that is written
-pub text_handed : (member ours r : Bor (List ℕ)) (rows : List ℕ) (code : ℕ) → Indexed member.now ours.now rows → code < code_count
-    → HandedBy (entry_in rows code) member ours r → r.now ≡ text_of member.now ours.now code
-text_handed member ours r rows code i h t =
-    (text_from member ours r code i.lists h (subst (λ (x : List ℕ). HandedBy (entry_in x code) member ours r) i.index t)).bytes
+pub text_handed : (member ours r : Bor (List ℕ)) (rows : List ℕ) (code : ℕ) → texts_ok member.now && texts_ok ours.now ≡ true
+    → rows ≡ index_of member.now ours.now → code < code_count → HandedBy (entry_in rows code) member ours r → r.now ≡ text_of member.now ours.now code
+text_handed member ours r rows code ok i h t =
+    (text_from member ours r code ok h (subst (λ (x : List ℕ). HandedBy (entry_in x code) member ours r) i t)).bytes
 
 -- What holds as the records are taken one after another, the next at a place, number k.
 module _ (member ours answers body : List ℕ) where
@@ -138,54 +149,53 @@ module _ (member ours answers body : List ℕ) where
   pub summed_start : Lined answers body 0 0 → Summed 0 0 0
   summed_start h = record { lined = h; sum = zero-add _; small = omega arith }
 
-  module _ (size at k : ℕ) (h : Summed size at k) (more : at < length body) (next n : ℕ) (e : line_end body at ≡ EndsAt next)
+  module _ (size at k : ℕ) (h : Summed size at k) (next n : ℕ) (e : line_end body at ≡ Some next)
       (f : n ≡ length (piece member ours (code_in answers k) (take (next - at) (drop at body)))) where
     line_length : length (take (next - at) (drop at body)) ≤ next - at
     line_length = rw length-take (omega arith)
 
     pub summed_more : Summed (size + n) next (k + 1)
     summed_more =
-        let split = ap length (pieces_more member ours answers body k at h.lined next more e)
+        let split = ap length (pieces_more member ours answers body k at h.lined next e)
         ∙ length-append (piece member ours (code_in answers k) (take (next - at) (drop at body))) _ in
         let short = piece_short member ours (code_in answers k) (take (next - at) (drop at body)) in
-        let placed = lined_placed answers body k at h.lined more next e in
+        let placed = lined_placed answers body k at h.lined next e in
         record {
-          lined = lined_more answers body k at h.lined more next e;
+          lined = lined_more answers body k at h.lined next e;
           sum = omega (arith, h.sum, split, f);
           small = omega (arith, h.small, short, f, line_length, placed);
         }
 
-  pub summed_done : (size at k : ℕ) → Summed size at k → length body ≤ at
+  pub summed_done : (size at k : ℕ) → Summed size at k → line_end body at ≡ None
       → (size ≡ length (pieces_from member ours answers body 0 0)) × (size ≤ 117760)
-  summed_done size at k h done =
+  summed_done size at k h e =
+      let done = lined_done answers body k at h.lined e in
       let none = ap length (pieces_none member ours answers body k at h.lined done) in
       (omega (arith, none, h.sum), omega (arith, h.small, h.lined.within, h.lined.short, h.lined.few))
 
   -- as their pieces are written
-  pub record Writing (out₀ : List ℕ) (start : ℕ) (out : List ℕ) (end at k : ℕ) : Type 0 where
+  pub record Writing (old : Page) (page : Page) (at k : ℕ) : Type 0 where
     pub lined : Lined answers body k at
-    pub long : length out ≡ length out₀
-    pub same : appended (page out end) (pieces_from member ours answers body k at) ≡ appended (page out₀ start) (pieces_from member ours answers body 0 0)
+    pub same : with_text page (pieces_from member ours answers body k at) ≡ with_text old (pieces_from member ours answers body 0 0)
 
-  pub writing_start : (out : List ℕ) (start : ℕ) → Lined answers body 0 0 → Writing out start out start 0 0
-  writing_start out start h = record { lined = h; long = refl; same = refl }
+  pub writing_start : (page : Page) → Lined answers body 0 0 → Writing page page 0 0
+  writing_start page h = record { lined = h; same = refl }
 
-  module _ (out₀ : List ℕ) (start : ℕ) (out : List ℕ) (end at k : ℕ) (h : Writing out₀ start out end at k) where
-    pub writing_more : (more : at < length body) (next : ℕ) {out' : List ℕ} {end' : ℕ} → line_end body at ≡ EndsAt next
-        → page out' end' ≡ appended (page out end) (piece member ours (code_in answers k) (take (next - at) (drop at body)))
-        → Writing out₀ start out' end' next (k + 1)
-    writing_more more next {out'} {end'} e f =
+  module _ (old : Page) (page : Page) (at k : ℕ) (h : Writing old page at k) where
+    pub writing_more : (next : ℕ) {later : Page} → line_end body at ≡ Some next
+        → later ≡ with_text page (piece member ours (code_in answers k) (take (next - at) (drop at body))) → Writing old later next (k + 1)
+    writing_more next {later} e f =
         let p = piece member ours (code_in answers k) (take (next - at) (drop at body)) in
         record {
-          lined = lined_more answers body k at h.lined more next e;
-          long = appended_length (page out end) p f ∙ h.long;
+          lined = lined_more answers body k at h.lined next e;
           same =
-              ap (λ (q : Page). appended q (pieces_from member ours answers body (k + 1) next)) f
-              ∙ appended_both (page out end) p (pieces_from member ours answers body (k + 1) next)
-              ∙ ap (appended (page out end)) (sym (pieces_more member ours answers body k at h.lined next more e))
+              ap (λ (q : Page). with_text q (pieces_from member ours answers body (k + 1) next)) f
+              ∙ with_both page p (pieces_from member ours answers body (k + 1) next)
+              ∙ ap (with_text page) (sym (pieces_more member ours answers body k at h.lined next e))
               ∙ h.same;
         }
 
-    pub writing_done : length body ≤ at → page out end ≡ appended (page out₀ start) (pieces_from member ours answers body 0 0)
-    unfolding appended
-    writing_done done = ap (appended (page out end)) (sym (pieces_none member ours answers body k at h.lined done)) ∙ h.same
+    pub writing_done : line_end body at ≡ None → page ≡ with_text old (pieces_from member ours answers body 0 0)
+    writing_done e =
+        let done = lined_done answers body k at h.lined e in
+        sym (with_nothing page) ∙ ap (with_text page) (sym (pieces_none member ours answers body k at h.lined done)) ∙ h.same

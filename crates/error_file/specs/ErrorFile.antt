@@ -1,8 +1,10 @@
 -- "Error file for the sender" of document 02, Item 1: one file from a report, its answers and two lists of texts.
 -- Assumes nothing.
-use Rattle.std.specs.Prelude.{ℕ, suc, ◌*◌, Bool, ◌&&◌, ◌||◌, not, cond, List, [], ◌∷◌, ◌++◌, ◌≡◌, eqb, leb, length}
+use Rattle.std.specs.Prelude.{ℕ, suc, ◌*◌, Bool, ◌&&◌, ◌||◌, not, cond, List, [], ◌∷◌, ◌++◌, ◌≡◌, eqb, leb, length, Result}
 use Rattle.frame.specs.Every.{every}
 use Rattle.frame.specs.Reply.{Reply, refused, accepted, unless, first_of, past}
+use Rattle.refusal.specs.declared.Refusal.{Refusal}
+use Rattle.refusal.specs.Refusal.{reply_of}
 use Rattle.text.specs.Text.{bytes}
 use Rattle.calendar.specs.Calendar.{real_date, real_minute}
 use Rattle.failures.specs.Codes.{is_no_code}
@@ -15,8 +17,6 @@ use Rattle.envelope.specs.Written.{Envelope, ReadsBack, written}
 use Rattle.page.specs.Number.{code_text}
 use Rattle.page.specs.Page.{fitted}
 use Rattle.texts.specs.Texts.{texts_ok, holds_text, text_of}
-use Rattle.error_file.specs.declared.Wrote.{Wrote}
-use Rattle.error_file.specs.declared.Wrote.TheVariants.{Refused, Length}
 
 -- "BWAMSERR for BWAMS, BWERR after UNH+BWA+ in place of BWA": the text behind the control word
 abbrev pub error_class : List ℕ
@@ -97,7 +97,6 @@ module _ (member ours : List ℕ) where
         pub last : ℕ
         pub back : ReadsBack (error_envelope (sender_of report layout) (control_word_of report layout) (records_from report layout)) head body last
 
--- what each case of the writer's reply stands for: the number of its refusal; the file's length
-abbrev pub wrote_as : Wrote → Reply ℕ
-wrote_as (Refused n) = refused n
-wrote_as (Length n) = accepted n
+-- what the writer's result stands for: the number of its refusal; the file's length
+abbrev pub wrote_as : Result ℕ Refusal → Reply ℕ
+wrote_as = reply_of (λ n. n)

@@ -1,14 +1,14 @@
 -- What the private functions of the writer ask and promise: the records of a body, one after another, with their lines.
 -- Assumes nothing.
-use Rattle.std.specs.Prelude.{ℕ, ◌+◌, ◌≤◌, Bool, true, ◌&&◌, ◌||◌, cond, List, [], ◌++◌, ◌≡◌, eqb, length, drop}
+use Rattle.std.specs.Prelude.{ℕ, ◌+◌, ◌≤◌, Bool, true, ◌||◌, cond, List, [], ◌++◌, ◌≡◌, eqb, length, drop}
 use Rattle.frame.specs.Every.{every}
 use Rattle.text.specs.Text.{bytes}
 use Rattle.envelope.specs.Body.{records, crlf, records_of}
 use Rattle.envelope.specs.Envelope.{file_limit, record_count_limit, listed}
 use Rattle.envelope.specs.Written.{lines_then}
 use Rattle.page.specs.Number.{code_text}
-use Rattle.texts.specs.Texts.{texts_ok, text_of}
-use Rattle.texts.specs.Index.{index_of, names_row}
+use Rattle.texts.specs.Texts.{text_of}
+use Rattle.texts.specs.Index.{names_row}
 use Rattle.error_file.specs.ErrorFile.{code_in, known_code, error_lines}
 
 -- the answer to record k has a code that needs no text, or has one by the index
@@ -16,11 +16,6 @@ abbrev pub is_named : List ℕ → List ℕ → ℕ → Bool
 is_named rows answers k = eqb (code_in answers k) 0 || names_row rows (code_in answers k)
 
 module _ (member ours : List ℕ) where
-  -- the lists are in order, and rows is their index
-  pub record Indexed (rows : List ℕ) : Type 0 where
-    pub lists : texts_ok member && texts_ok ours ≡ true
-    pub index : rows ≡ index_of member ours
-
   -- what is written for a line of the report: nothing where its code is 0, else the line, and the line of its code
   unfoldable pub piece : ℕ → List ℕ → List ℕ
   piece code line = cond (eqb code 0) [] (line ++ code_text code ++ bytes "-" ++ text_of member ours code ++ crlf)

@@ -1,23 +1,12 @@
-use borrow.Author.Rules.{rules}
-use mathlib.Core.Path.{◌∙◌}
-use Rattle.frame.proofs.EveryLaws.{every_none, every_more, every_broke, every_done}
-use Rattle.error_file.proofs.ErrorLaws.{named_by}
+use mathlib.Core.Path.{refl, ◌∙◌}
+use Rattle.std.proofs.Common.{rules, tests, arith}
+use Rattle.std.proofs.lemmas.Iterator.{YieldsList-from_range}
+use Rattle.std.proofs.lemmas.Iterator.Search.{all_from_yields_List}
+use Rattle.error_file.specs.Steps.{is_named}
+use Rattle.error_file.proofs.ErrorLaws.{every_below}
 use Rattle.error_file.proofs.codes_named.Goals as goal
 
-pub loop-k-init : goal.loop-k-init
-loop-k-init c = (search rules, every_none _)
-
-pub returns-then-not-code-holds : goal.returns-then-not-code-holds
-returns-then-not-code-holds c =
-    let rows = c.args.rows.now in
-    let named = named_by rows _ _ c.code_in-code.ensures c.holds.ensures in
-    every_broke _ _ _ c.loop-k-test.true (named ∙ (c.if-not-code-holds.true))
-
-pub loop-k-preserved : goal.loop-k-preserved
-loop-k-preserved c =
-    let rows = c.args.rows.now in
-    let named = named_by rows _ _ c.code_in-code.ensures c.holds.ensures in
-    (search rules, every_more _ _ c.loop-k.invariant.1 (named ∙ (c.if-not-code-holds.false)))
-
 pub returns : goal.returns
-returns c = every_done _ _ _ c.loop-k.invariant.0 c.loop-k-test.false c.loop-k.invariant.1
+returns c =
+    all_from_yields_List (is_named c.args.index.now.rows.now c.args.answers.now) _ _ _ c.all.ensures.ran (YieldsList-from_range 0 c.args.n c.args.n refl (omega arith)) (λ x b q h. search (rules, tests))
+    ∙ every_below c.args.n (is_named c.args.index.now.rows.now c.args.answers.now)

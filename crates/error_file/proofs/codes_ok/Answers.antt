@@ -1,22 +1,12 @@
-use borrow.Author.Rules.{rules}
-use mathlib.Core.Bool.{not}
-use mathlib.Core.Path.{ap, sym, ◌∙◌}
-use Rattle.frame.proofs.EveryLaws.{every_none, every_more, every_broke, every_done}
-use Rattle.failures.specs.Codes.{is_no_code}
+use mathlib.Core.Path.{refl, ◌∙◌}
+use Rattle.std.proofs.Common.{rules, tests, arith}
+use Rattle.std.proofs.lemmas.Iterator.{YieldsList-from_range}
+use Rattle.std.proofs.lemmas.Iterator.Search.{all_from_yields_List}
+use Rattle.error_file.specs.ErrorFile.{known_code}
+use Rattle.error_file.proofs.ErrorLaws.{every_below}
 use Rattle.error_file.proofs.codes_ok.Goals as goal
 
-pub loop-k-init : goal.loop-k-init
-loop-k-init c = (search rules, every_none _)
-
-pub returns-then-is_no_code : goal.returns-then-is_no_code
-returns-then-is_no_code c =
-    let none = ap is_no_code (sym c.code_in.ensures) ∙ sym c.is_no_code.ensures ∙ c.if-is_no_code.true in
-    every_broke _ _ _ c.loop-k-test.true (ap not none)
-
-pub loop-k-preserved : goal.loop-k-preserved
-loop-k-preserved c =
-    let some = ap is_no_code (sym c.code_in.ensures) ∙ sym c.is_no_code.ensures ∙ c.if-is_no_code.false in
-    (search rules, every_more _ _ c.loop-k.invariant.1 (ap not some))
-
 pub returns : goal.returns
-returns c = every_done _ _ _ c.loop-k.invariant.0 c.loop-k-test.false c.loop-k.invariant.1
+returns c =
+    all_from_yields_List (known_code c.args.answers.now) _ _ _ c.all.ensures.ran (YieldsList-from_range 0 c.args.n c.args.n refl (omega arith)) (λ x b q h. search (rules, tests))
+    ∙ every_below c.args.n (known_code c.args.answers.now)
