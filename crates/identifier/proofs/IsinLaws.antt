@@ -182,5 +182,3 @@ pub ruleset weight_laws = (weight_doubled, weight_single)
 pub ruleset capital_laws = (capital_doubled, capital_single)
 
 pub ruleset letter_laws = (capital_low, capital_high, capital_value)
-
-pub ruleset check_laws = (check_digit)

@@ -151,7 +151,7 @@ pub fn letter_sum(s: &[u8]) -> u64
 }
 
 // Whether the check digit of s is right.
-#[tactic(auto, using(crate::proofs::IsinLaws::check_laws))]
+#[tactic(auto, using(crate::proofs::IsinLaws::check_digit))]
 pub fn is_check_digit_right(s: &[u8]) -> bool
     ensures { result ≡ check_digit_right s.now }
 {
