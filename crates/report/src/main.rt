@@ -2,13 +2,13 @@
 // prints what became of each record. With the argument `answers` it saves the answer records too, as answers.new.
 #![tactic(auto)]
 
-ghost use Rattle.io.specs.Counts.{IsPrefixLen};
-
-use calls::filing::Filed;
-use disk::{Loaded, Reason};
-use std::env::{Env, FillError};
-use std::fs;
+use calls::filing::file_call;
+use console::{argument, print};
+use disk::{load_or_complain, save_or_complain};
+use page::Page;
 use std::rt::Files;
+use std::{fs, io};
+use tables::Tables;
 
 // Room for a report, for 16 reporters, 512 currencies and a ledger, each with a byte more, so that what is too long is refused, and never cut.
 const REPORT_ROOM: usize = 32769;
@@ -26,119 +26,77 @@ const ANSWERS_ROOM: usize = MOST_RECORDS * answer::SIZE;
 
 const PAGE_ROOM: usize = 20505;
 
-// Reads a file, and complains where it cannot be read.
-fn load(rt: &(impl Files + Eprint), path: &[u8], buffer: &mut [u8]) -> Loaded
-    ensures { IsPrefixLen result.bytes buffer.new }
-{
-    disk::load_or_complain(rt, path, buffer, b"nothing was booked: ")
-}
-
-// Saves a file, and complains where it cannot be saved.
-fn save(rt: &(impl Files + Eprint), bytes: &[u8], temporary: &[u8], name: &[u8]) -> bool {
-    let saved = disk::save_or_complain(rt, bytes, temporary, name, b"nothing was booked: ");
-    saved.named
-}
+// What is said first where a file cannot be read or saved.
+const UNDONE: &[u8] = b"nothing was booked: ";
 
 // Saves the ledger, and before it the answers where they are asked for: answers to a report that is then not booked do not stay.
-fn save_all(rt: &(impl Files + Eprint), ledger: &[u8], answers: &[u8], wanted: bool) -> bool {
-    if wanted && !save(rt, answers, b"answers.tmp", b"answers.new") {
-        return false;
+fn save_all(rt: &(impl Files + Eprint), ledger: &[u8], answers: Option<&[u8]>) -> io::Result<()> {
+    if let Some(answers) = answers {
+        save_or_complain(rt, answers, b"answers.tmp", b"answers.new", UNDONE).named?;
     }
-    if save(rt, ledger, b"ledger.tmp", b"ledger.new") {
-        return true;
-    }
-    if wanted {
+    let saved = save_or_complain(rt, ledger, b"ledger.tmp", b"ledger.new", UNDONE);
+    if answers.is_some() && saved.named.is_err() {
         let _ = fs::remove_file(rt, "answers.new");
     }
-    false
-}
-
-// Prints a text, and says so where it cannot be printed.
-fn print(rt: &(impl Print + Eprint), text: &[u8]) {
-    if let Err(why) = rt.write_all(text) {
-        let _ = eprintln!(rt; "standard output: {}", Reason { error: why });
-    }
-}
-
-// The answers to n records.
-fn first_answers(answers: &[u8], n: usize) -> &[u8] {
-    if n <= MOST_RECORDS {
-        return text::front(answers, n * answer::SIZE);
-    }
-    answers
+    saved.named
 }
 
 // Files the report. What is asked for is saved before a line claims that something was booked.
 fn run(
     rt: &(impl Files + Print + Eprint),
     file: &[u8],
-    reporters: &[u8],
-    currencies: &[u8],
+    tables: Tables,
     ledger: &mut [u8],
     wanted: bool,
-) {
+) -> io::Result<()> {
     let mut answers = [0u8; ANSWERS_ROOM];
-    let mut page = [0u8; PAGE_ROOM];
-    match calls::filing::file_call(file, reporters, currencies, ledger, &mut answers) {
-        Filed::Refused(n) => {
-            let end = results::refused(&mut page, n);
-            print(rt, text::front(&page, end));
+    let mut room = [0u8; PAGE_ROOM];
+    let mut page = Page {
+        room: &mut room,
+        end: 0,
+    };
+    match file_call(file, tables, ledger, &mut answers) {
+        Ok(n) => {
+            let made = text::front(&answers, n.saturating_mul(answer::SIZE));
+            save_all(rt, ledger, wanted.then_some(made))?;
+            results::accepted(&mut page, &answers, n);
         }
-        Filed::Count(n) => {
-            if save_all(rt, ledger, first_answers(&answers, n), wanted) {
-                let end = results::accepted(&mut page, &answers, n);
-                print(rt, text::front(&page, end));
-            }
-        }
+        Err(refusal) => results::refused(&mut page, u8::from(refusal)),
     }
+    print(rt, &mut io::writer(rt), page.text())
 }
 
-// Reads the four files, and files the report where all of them could be read.
+// Reads the four files, and files the report where all of them could be read. What fails is said where it fails.
 fn read_and_run(rt: &(impl Files + Print + Eprint), wanted: bool) {
     let mut file = [0u8; REPORT_ROOM];
     let mut reporters = [0u8; REPORTERS_ROOM];
     let mut currencies = [0u8; CURRENCIES_ROOM];
     let mut ledger = [0u8; LEDGER_ROOM];
-    let report = load(rt, b"report.edi", &mut file);
-    let rows = load(rt, b"reporters.ref", &mut reporters);
-    let codes = load(rt, b"currency.ref", &mut currencies);
-    let booked = load(rt, b"ledger.dat", &mut ledger);
-    if report.readable & rows.readable & codes.readable & booked.readable {
-        let n = booked.bytes;
-        run(
-            rt,
-            text::front(&file, report.bytes),
-            text::front(&reporters, rows.bytes),
-            text::front(&currencies, codes.bytes),
-            &mut ledger[..n],
-            wanted,
-        );
+    let report = load_or_complain(rt, b"report.edi", &mut file, UNDONE);
+    let rows = load_or_complain(rt, b"reporters.ref", &mut reporters, UNDONE);
+    let codes = load_or_complain(rt, b"currency.ref", &mut currencies, UNDONE);
+    let booked = load_or_complain(rt, b"ledger.dat", &mut ledger, UNDONE);
+    if let (Ok(report), Ok(rows), Ok(codes), Ok(booked)) = (report, rows, codes, booked) {
+        let tables = Tables {
+            reporters: &reporters[..rows],
+            currencies: &currencies[..codes],
+        };
+        let _ = run(rt, &file[..report], tables, &mut ledger[..booked], wanted);
     }
-}
-
-// Whether there is an argument of that number; the program's own name is number 0.
-fn is_given(rt: &impl Env, i: usize) -> bool {
-    let mut start = [0u8; 1];
-    match rt.arg(i, &mut start) {
-        Err(FillError::NotPresent) => false,
-        _ => true,
-    }
-}
-
-// Whether the only argument is `answers`.
-fn asks_for_answers(rt: &impl Env) -> bool {
-    let mut word = [0u8; 8];
-    let n = rt.arg(1, &mut word).unwrap_or(0);
-    !is_given(rt, 2) & text::same(text::front(&word, n), b"answers")
 }
 
 // Without an argument books the report; with `answers` saves its answers too; with any other does nothing, and says what it knows.
 fn main(rt: HostRuntime) {
-    if !is_given(&rt, 1) {
-        return read_and_run(&rt, false);
+    let mut word = [0u8; 8];
+    let first = argument(&rt, 1, &mut word);
+    let second = argument(&rt, 2, &mut [0u8; 1]);
+    match (first, second) {
+        (None, _) => read_and_run(&rt, false),
+        (Some(n), None) if word[..n] == b"answers"[..] => read_and_run(&rt, true),
+        _ => {
+            let _ = eprintln!(rt;
+                "nothing was booked: the only argument that report knows is answers"
+            );
+        }
     }
-    if asks_for_answers(&rt) {
-        return read_and_run(&rt, true);
-    }
-    let _ = eprintln!(rt; "nothing was booked: the only argument that report knows is answers");
 }

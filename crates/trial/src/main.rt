@@ -2,15 +2,19 @@
 // by reporters.ref and currency.ref, all in the working directory. Prints what would become of each, then how many would be booked. Writes no file.
 #![tactic(auto)]
 
-ghost use Rattle.std.specs.Prelude.{◌≡◌, ◌+◌, ◌≤◌, ◌<◌, length};
+ghost use Rattle.std.specs.Prelude.{◌≤◌, IfOk};
 ghost use Rattle.io.specs.Counts.{IsPrefixLen};
 
-use answer::BOOKED;
-use calls::Replied;
-use disk::{Loaded, Reason};
-use std::env::{Env, FillError};
+use answer::{Answer, BOOKED};
+use calls::Call;
+use console::{argument, print};
+use disk::{Reason, load_or_complain};
+use page::Page;
+use refusal::Refusal;
+use std::io;
 use std::io::{Input, Read};
 use std::rt::Files;
+use tables::Tables;
 
 // Room for 16 reporters, 512 currencies and a ledger, each with a byte more, so that what is too long is refused, and never cut.
 const REPORTERS_ROOM: usize = 513;
@@ -31,290 +35,221 @@ const PAGE_ROOM: usize = 68;
 // A proved loop has to end, and nothing says that standard input does: no run makes so many reads.
 const MOST_READS: u64 = 100000000000000;
 
-// How far a trial has come: the bytes of a line whose end is not read yet, the records judged, those of them that would be booked, and whether
-// all their lines could be printed.
+// What is said first where a file cannot be read.
+const UNDONE: &[u8] = b"nothing was judged: ";
+
+// What the records are judged by, and for whom.
+#[derive(Clone, Copy)]
+struct Basis<'a> {
+    tables: Tables<'a>,
+    ledger: &'a [u8],
+    sender: &'a [u8],
+}
+
+// How far a trial has come: the bytes of a line whose end is not read yet, the records judged, and those of them that would be booked.
 #[derive(Clone, Copy)]
 struct Progress {
     bytes: usize,
     number: u64,
     booked: u64,
-    printed: bool,
+    ghost most: { booked ≤ number },
 }
 
-// Reads a file, and complains where it cannot be read.
-fn load(rt: &(impl Files + Eprint), path: &[u8], buffer: &mut [u8]) -> Loaded
-    ensures { IsPrefixLen result.bytes buffer.new }
-{
-    disk::load_or_complain(rt, path, buffer, b"nothing was judged: ")
-}
+impl Progress {
+    // Before the first line.
+    fn start() -> Progress {
+        Progress {
+            bytes: 0,
+            number: 0,
+            booked: 0,
+        }
+    }
 
-// Prints a text, and says so where it cannot be printed: whether it could.
-fn print(rt: &(impl Print + Eprint), text: &[u8]) -> bool {
-    match rt.write_all(text) {
-        Ok(()) => true,
-        Err(why) => {
-            let _ = eprintln!(rt; "standard output: {}", Reason { error: why });
-            false
+    // With a record more, whose line has been read to its end. No run reads so many that a count would stop.
+    fn counted(self, books: bool) -> Progress {
+        Progress {
+            bytes: 0,
+            number: self.number.saturating_add(1),
+            booked: if books {
+                self.booked.saturating_add(1)
+            } else {
+                self.booked
+            },
         }
     }
 }
 
 // The record of a line: without the CR at its end, which the lines of a report have.
 fn record_of(line: &[u8]) -> &[u8] {
-    let n = line.len();
-    if n == 0 {
-        return line;
-    }
-    if line[n - 1] != b'\r' {
-        return line;
-    }
-    text::front(line, n - 1)
+    line.strip_suffix(b"\r").unwrap_or(line)
 }
 
-// Prints what would become of a record: whether it could be printed.
-fn tell(rt: &(impl Print + Eprint), number: u64, replied: Replied) -> bool {
-    let mut page = [0u8; PAGE_ROOM];
-    match replied {
-        Replied::Refused(n) => {
-            let end = results::append_refused_line(&mut page, 0, number, n);
-            print(rt, text::front(&page, end))
-        }
-        Replied::Answered(a) => {
-            let end = results::append_line(&mut page, 0, number, a);
-            print(rt, text::front(&page, end))
-        }
-    }
-}
-
-// How many bookings a reply promises, 1 or 0.
-fn bookings(replied: Replied) -> u64
-    ensures { result ≤ 1 }
-{
-    let Replied::Answered(a) = replied else {
-        return 0;
+// Prints what would become of a record.
+fn tell(
+    rt: &(impl Print + Eprint),
+    number: u64,
+    replied: Result<Answer, Refusal>,
+) -> io::Result<()> {
+    let mut room = [0u8; PAGE_ROOM];
+    let mut page = Page {
+        room: &mut room,
+        end: 0,
     };
-    if a.status == BOOKED {
-        return 1;
+    match replied {
+        Ok(a) => results::append_line(&mut page, number, a),
+        Err(refusal) => results::append_refused_line(&mut page, number, u8::from(refusal)),
     }
-    0
-}
-
-// A trial with a record more, and the bookings that its reply promises.
-fn counted(done: Progress, more: u64, printed: bool) -> Progress
-    requires { (done.booked ≤ done.number) × (done.number < 18446744073709551615) × (more ≤ 1) }
-    ensures { (result.booked ≤ result.number) × (result.number ≡ done.number + 1) }
-{
-    Progress {
-        bytes: 0,
-        number: done.number + 1,
-        booked: done.booked + more,
-        printed,
-    }
+    print(rt, &mut io::writer(rt), page.text())
 }
 
 // Judges the record of a line, and prints what would become of it.
 fn judge(
     rt: &(impl Print + Eprint),
-    reporters: &[u8],
-    currencies: &[u8],
-    ledger: &[u8],
-    sender: &[u8],
+    basis: Basis,
     line: &[u8],
     done: Progress,
-) -> Progress
-    requires { (done.booked ≤ done.number) × (done.number < 18446744073709551615) }
-    ensures { (result.booked ≤ result.number) × (result.number ≡ done.number + 1) }
-{
-    let replied = calls::judging::judge_call(
-        reporters,
-        currencies,
-        ledger,
-        sender,
-        record_of(line),
-    );
-    let printed = tell(rt, done.number + 1, replied);
-    counted(done, bookings(replied), printed)
+) -> io::Result<Progress> {
+    let call = Call {
+        sender: basis.sender,
+        record: record_of(line),
+    };
+    let replied = calls::judging::judge_call(basis.tables, basis.ledger, call);
+    let next = done.counted(replied.is_ok_and(|a| a.status == BOOKED));
+    tell(rt, next.number, replied)?;
+    Ok(next)
 }
 
 // Judges each line that ends in a chunk of the input. What stands behind the last of them is kept, as the start of the next.
 fn judge_lines(
     rt: &(impl Print + Eprint),
-    reporters: &[u8],
-    currencies: &[u8],
-    ledger: &[u8],
-    sender: &[u8],
+    basis: Basis,
     chunk: &[u8],
     line: &mut [u8],
     start: Progress,
-) -> Progress
-    requires { (start.booked ≤ start.number) × (start.number + length chunk.now < 18446744073709551615) }
-    ensures { (result.booked ≤ result.number) × (result.number ≤ start.number + length chunk.now) }
-{
+) -> io::Result<Progress> {
     let mut done = start;
-    let mut at = 0;
-    while at < chunk.len() {
-        let rest = text::rest(chunk, at);
-        let n = text::position(rest, b'\n');
-        let end = page::append(line, done.bytes, text::front(rest, n));
-        if n == rest.len() {
-            done.bytes = end;
-            return done;
-        }
-        let whole = text::front(line, end);
-        done = judge(rt, reporters, currencies, ledger, sender, whole, done);
-        if !done.printed {
-            return done;
-        }
-        at += n + 1;
+    for piece in chunk.split_inclusive(|b| *b == b'\n') {
+        let mut page = Page {
+            room: line,
+            end: done.bytes,
+        };
+        let Some(part) = piece.strip_suffix(b"\n") else {
+            page.append(piece);
+            done.bytes = page.end;
+            return Ok(done);
+        };
+        page.append(part);
+        done = judge(rt, basis, page.text(), done)?;
     }
-    done
+    Ok(done)
 }
 
 // Prints how many records would be booked.
-fn tell_bookings(rt: &(impl Print + Eprint), count: u64) {
-    let mut page = [0u8; PAGE_ROOM];
-    let end = results::would_book(&mut page, count);
-    print(rt, text::front(&page, end));
+fn tell_bookings(rt: &(impl Print + Eprint), count: u64) -> io::Result<()> {
+    let mut room = [0u8; PAGE_ROOM];
+    let mut page = Page {
+        room: &mut room,
+        end: 0,
+    };
+    results::would_book(&mut page, count);
+    print(rt, &mut io::writer(rt), page.text())
 }
 
 // Ends a trial. What stands behind the last LF is a record where it is not empty, a lone CR an empty one.
-fn finish(
-    rt: &(impl Print + Eprint),
-    reporters: &[u8],
-    currencies: &[u8],
-    ledger: &[u8],
-    sender: &[u8],
-    line: &[u8],
-    done: Progress,
-)
-    requires { (done.booked ≤ done.number) × (done.number < 18446744073709551615) }
-{
-    if line.len() == 0 {
+fn finish(rt: &(impl Print + Eprint), basis: Basis, line: &[u8], done: Progress) -> io::Result<()> {
+    if line.is_empty() {
         return tell_bookings(rt, done.booked);
     }
-    let last = judge(rt, reporters, currencies, ledger, sender, line, done);
-    if last.printed {
-        tell_bookings(rt, last.booked);
-    }
+    let last = judge(rt, basis, line, done)?;
+    tell_bookings(rt, last.booked)
 }
 
 // Reads standard input on, no byte at its end, and says so where it cannot be read.
-fn read_on(rt: &impl Eprint, input: &mut impl Read, chunk: &mut [u8]) -> Loaded
-    ensures { IsPrefixLen result.bytes chunk.new }
+fn read_on(rt: &impl Eprint, input: &mut impl Read, chunk: &mut [u8]) -> io::Result<usize>
+    ensures { IfOk result (λ n. IsPrefixLen n chunk.new) }
 {
-    match input.read(chunk) {
-        Ok(bytes) => Loaded {
-            bytes,
-            readable: true,
-            why: None,
-        },
-        Err(why) => {
-            let _ = eprintln!(rt; "standard input: {}", Reason { error: why });
-            Loaded {
-                bytes: 0,
-                readable: false,
-                why: Some(why),
-            }
-        }
+    let read = input.read(chunk);
+    if let Err(error) = read {
+        let _ = eprintln!(rt; "standard input: {}", Reason { error });
     }
+    read
 }
 
 // Judges the records of standard input, chunk by chunk. Where it cannot be read, or a line cannot be printed, the trial ends without its last line.
 fn judge_input(
     rt: &(impl Print + Eprint),
     input: &mut impl Read,
-    reporters: &[u8],
-    currencies: &[u8],
-    ledger: &[u8],
-    sender: &[u8],
+    basis: Basis,
     chunk: &mut [u8],
     line: &mut [u8],
-)
-    requires { length chunk.old ≤ 65536 }
-{
-    let mut done = Progress {
-        bytes: 0,
-        number: 0,
-        booked: 0,
-        printed: true,
-    };
-    let mut reads: u64 = 0;
-    while reads < MOST_READS {
-        let next = read_on(rt, input, chunk);
-        if !next.readable {
-            return;
+) -> io::Result<()> {
+    let mut done = Progress::start();
+    for _ in 0..MOST_READS {
+        let n = read_on(rt, input, chunk)?;
+        if n == 0 {
+            return finish(rt, basis, text::front(line, done.bytes), done);
         }
-        if next.bytes == 0 {
-            let last = text::front(line, done.bytes);
-            return finish(rt, reporters, currencies, ledger, sender, last, done);
-        }
-        let read = text::front(chunk, next.bytes);
-        done = judge_lines(rt, reporters, currencies, ledger, sender, read, line, done);
-        if !done.printed {
-            return;
-        }
-        reads += 1;
+        done = judge_lines(rt, basis, &chunk[..n], line, done)?;
     }
+    Ok(())
 }
 
 // Prints the refusal that no record has a part in, the tables', the ledger's or the sender's; without one judges the records.
-fn run(
+fn run<'a>(
     rt: &(impl Input + Print + Eprint),
-    reporters: &[u8],
-    currencies: &[u8],
-    ledger: &[u8],
-    sender: &[u8],
-) {
-    let n = calls::refusal(reporters, currencies, ledger, sender, b"");
-    if n != 0 {
-        let mut page = [0u8; PAGE_ROOM];
-        let end = results::refused(&mut page, n);
-        print(rt, text::front(&page, end));
-        return;
+    tables: Tables<'a>,
+    ledger: &'a [u8],
+    sender: &'a [u8],
+) -> io::Result<()> {
+    let no_record = Call {
+        sender,
+        record: b"",
+    };
+    if let Err(refusal) = calls::refusal(tables, ledger, no_record) {
+        let mut room = [0u8; PAGE_ROOM];
+        let mut page = Page {
+            room: &mut room,
+            end: 0,
+        };
+        results::refused(&mut page, u8::from(refusal));
+        return print(rt, &mut io::writer(rt), page.text());
     }
     let mut chunk = [0u8; CHUNK_ROOM];
     let mut line = [0u8; LINE_ROOM];
     let mut input = rt.reader();
-    judge_input(
-        rt, &mut input, reporters, currencies, ledger, sender, &mut chunk, &mut line,
-    );
+    let basis = Basis {
+        tables,
+        ledger,
+        sender,
+    };
+    judge_input(rt, &mut input, basis, &mut chunk, &mut line)
 }
 
-// Reads the three files, and judges for a sender where all of them could be read.
+// Reads the three files, and judges for a sender where all of them could be read. What fails is said where it fails.
 fn read_and_run(rt: &(impl Files + Input + Print + Eprint), sender: &[u8]) {
     let mut reporters = [0u8; REPORTERS_ROOM];
     let mut currencies = [0u8; CURRENCIES_ROOM];
     let mut ledger = [0u8; LEDGER_ROOM];
-    let rows = load(rt, b"reporters.ref", &mut reporters);
-    let codes = load(rt, b"currency.ref", &mut currencies);
-    let booked = load(rt, b"ledger.dat", &mut ledger);
-    if rows.readable & codes.readable & booked.readable {
-        run(
-            rt,
-            text::front(&reporters, rows.bytes),
-            text::front(&currencies, codes.bytes),
-            text::front(&ledger, booked.bytes),
-            sender,
-        );
-    }
-}
-
-// Whether there is an argument of that number; the program's own name is number 0.
-fn is_given(rt: &impl Env, i: usize) -> bool {
-    let mut start = [0u8; 1];
-    match rt.arg(i, &mut start) {
-        Err(FillError::NotPresent) => false,
-        _ => true,
+    let rows = load_or_complain(rt, b"reporters.ref", &mut reporters, UNDONE);
+    let codes = load_or_complain(rt, b"currency.ref", &mut currencies, UNDONE);
+    let booked = load_or_complain(rt, b"ledger.dat", &mut ledger, UNDONE);
+    if let (Ok(rows), Ok(codes), Ok(booked)) = (rows, codes, booked) {
+        let tables = Tables {
+            reporters: &reporters[..rows],
+            currencies: &currencies[..codes],
+        };
+        let _ = run(rt, tables, &ledger[..booked], sender);
     }
 }
 
 // Takes the sender from its argument. One that is longer than a mailbox is taken for an empty one, and so refused as it has to be.
 fn main(rt: HostRuntime) {
-    if !is_given(&rt, 1) | is_given(&rt, 2) {
+    let mut sender = [0u8; 8];
+    let first = argument(&rt, 1, &mut sender);
+    let second = argument(&rt, 2, &mut [0u8; 1]);
+    let (Some(n), None) = (first, second) else {
         let _ = eprintln!(rt; "nothing was judged: say the sender, trial SENDER");
         return;
-    }
-    let mut sender = [0u8; 8];
-    let n = rt.arg(1, &mut sender).unwrap_or(0);
-    read_and_run(&rt, text::front(&sender, n));
+    };
+    read_and_run(&rt, &sender[..n]);
 }
