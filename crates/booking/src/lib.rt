@@ -2,14 +2,13 @@
 #![tactic(auto)]
 
 ghost use Rattle.std.specs.Prelude.{◌≡◌, ◌≤◌, ◌<◌, length, get_or};
-ghost use Rattle.ledger.specs.Row.{row_size, number_room};
+ghost use Rattle.ledger.specs.Row.{row_size, number_room, byte_of};
 ghost use Rattle.ledger.specs.Sound.{row_count, compartment_size};
 ghost use Rattle.booking.specs.Booking.{padded, new_row, entered, relinked, relinked_at, cancelled_by, can_book, booked};
 
 use ledger::{
-    CANCELLATION, CANCELLED, COMPARTMENT_SIZE, LENGTH_PLACE, LIVE, NO_PARTNER, NUMBER_PLACE,
-    NUMBER_ROOM, PARTNER_PLACE, QUANTITY_PLACE, ROW_COUNT, ROW_SIZE, SIDE_PLACE, STATE_PLACE,
-    ZEROS_PLACE,
+    COMPARTMENT_SIZE, LENGTH_PLACE, NO_PARTNER, NUMBER_PLACE, NUMBER_ROOM, PARTNER_PLACE,
+    QUANTITY_PLACE, ROW_COUNT, ROW_SIZE, SIDE_PLACE, STATE_PLACE, State, ZEROS_PLACE,
 };
 
 // Writes a number and the zeros after it into its sixteen bytes.
@@ -29,7 +28,7 @@ fn fill_row(w: &mut [u8], n: &[u8], q: u64, s: u8)
     ensures { w.new ≡ new_row n.now q s }
 {
     w[ZEROS_PLACE..].fill(0);
-    w[STATE_PLACE] = LIVE;
+    w[STATE_PLACE] = State::Live as u8;
     w[LENGTH_PLACE] = n.len() as u8;
     w[SIDE_PLACE] = s;
     put_number(&mut w[NUMBER_PLACE..QUANTITY_PLACE], n);
@@ -38,11 +37,12 @@ fn fill_row(w: &mut [u8], n: &[u8], q: u64, s: u8)
 }
 
 // Gives a row another state and the partner p.
-fn relink(w: &mut [u8], state: u8, p: usize)
+#[tactic(auto, unfolding(crate::specs::Booking::relinked), using(crate::proofs::RowLaws::relinked_length))]
+fn relink(w: &mut [u8], state: State, p: usize)
     requires { (length w.old ≡ row_size) × (p < row_count) }
-    ensures { w.new ≡ relinked state p w.old }
+    ensures { w.new ≡ relinked (byte_of state) p w.old }
 {
-    w[STATE_PLACE] = state;
+    w[STATE_PLACE] = state as u8;
     text::write(w, PARTNER_PLACE, p as u16);
 }
 
@@ -57,9 +57,9 @@ fn enter(c: &mut [u8], f: usize, n: &[u8], q: u64, s: u8)
 }
 
 // Gives row k another state and the partner p.
-fn relink_row(c: &mut [u8], k: usize, state: u8, p: usize)
+fn relink_row(c: &mut [u8], k: usize, state: State, p: usize)
     requires { (length c.old ≡ compartment_size) × (k < row_count) × (p < row_count) }
-    ensures { c.new ≡ relinked_at k state p c.old }
+    ensures { c.new ≡ relinked_at k (byte_of state) p c.old }
 {
     let a = k * ROW_SIZE;
     let e = a + ROW_SIZE;
@@ -71,8 +71,8 @@ fn cancel(c: &mut [u8], f: usize, p: usize)
     requires { (length c.old ≡ compartment_size) × (f < row_count) × (p < row_count) }
     ensures { c.new ≡ cancelled_by f p c.old }
 {
-    relink_row(c, f, CANCELLATION, p);
-    relink_row(c, p, CANCELLED, f);
+    relink_row(c, f, State::Cancellation, p);
+    relink_row(c, p, State::Cancelled, f);
 }
 
 // Whether a booking can be made: the compartment has its length, f is one of its rows, and the number has room.

@@ -6,6 +6,8 @@ use Rattle.text.specs.Class.{is_zero}
 use Rattle.text.specs.Bytes.{all}
 use Rattle.text.specs.Number.{number_at}
 use Rattle.identifier.specs.Identifier.{name_up_to}
+use Rattle.ledger.specs.declared.State.{State}
+use Rattle.ledger.specs.declared.State.TheVariants.{Free, Live, Cancelled, Cancellation}
 
 -- bytes of a row
 abbrev pub row_size : ℕ
@@ -26,6 +28,13 @@ cancelled = 2
 
 abbrev pub cancellation : ℕ
 cancellation = 3
+
+-- the byte of a state
+abbrev pub byte_of : State → ℕ
+byte_of Free = free
+byte_of Live = live
+byte_of Cancelled = cancelled
+byte_of Cancellation = cancellation
 
 abbrev pub state : List ℕ → ℕ
 state w = get_or w state_place 0

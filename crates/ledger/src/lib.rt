@@ -5,7 +5,7 @@ ghost use Rattle.std.specs.Prelude.{◌<◌, ◌≤◌, true, ◌&&◌, ◌≡�
 ghost use Rattle.frame.specs.Every.{every, least};
 ghost use Rattle.text.specs.Bytes.{same};
 ghost use Rattle.text.specs.Number.{number_at};
-ghost use Rattle.ledger.specs.Row.{row_size, state, filled_row, number, number_padding, partner, is_side, row_form};
+ghost use Rattle.ledger.specs.Row.{row_size, state, byte_of, filled_row, number, number_padding, partner, is_side, row_form};
 ghost use Rattle.ledger.specs.Sound.{row_count, compartment_size, rows_of, points_back, linked, precedes, sound_row, sound_compartment};
 ghost use Rattle.ledger.specs.Sound.{AfterSound, FormAfterSound, sound_ledger};
 ghost use Rattle.ledger.specs.Slots.{slot_count, slot_of, Fresh};
@@ -40,14 +40,6 @@ pub const SIDE_PLACE: usize = 28;
 
 pub const ZEROS_PLACE: usize = 29;
 
-const FREE: u8 = 0;
-
-pub const LIVE: u8 = 1;
-
-pub const CANCELLED: u8 = 2;
-
-pub const CANCELLATION: u8 = 3;
-
 pub const NUMBER_ROOM: usize = 16;
 
 const LARGEST_QUANTITY: u64 = 9_999_999_999_999_999_999;
@@ -62,6 +54,15 @@ const SLOT_COUNT: usize = 499;
 type Compartment = [u8; COMPARTMENT_SIZE];
 
 type Row = [u8; ROW_SIZE];
+
+// The state of a row, by its byte.
+#[derive(Clone, Copy)]
+pub enum State {
+    Free = 0,
+    Live = 1,
+    Cancelled = 2,
+    Cancellation = 3,
+}
 
 // The states that a search for a number asks for.
 #[derive(Clone, Copy)]
@@ -117,8 +118,8 @@ fn is_row_form(w: &Row) -> bool
     ensures { result ≡ row_form w.now }
 {
     let s = w[STATE_PLACE];
-    (LIVE <= s)
-        & (s <= CANCELLATION)
+    (State::Live as u8 <= s)
+        & (s <= State::Cancellation as u8)
         & identifier::is_name(number_of(w), NUMBER_ROOM)
         & text::all(Class::Zero, padding_of(w))
         & (text::read::<u64>(w, QUANTITY_PLACE) <= LARGEST_QUANTITY)
@@ -128,12 +129,12 @@ fn is_row_form(w: &Row) -> bool
 
 // Whether row q has the state s and points to row k.
 #[tactic(auto, unfolding(crate::specs::Sound::points_back))]
-fn points_back(c: &Compartment, q: usize, s: u8, k: usize) -> bool
+fn points_back(c: &Compartment, q: usize, s: State, k: usize) -> bool
     requires { q < row_count }
-    ensures { result ≡ points_back (rows_of c.now) q s k }
+    ensures { result ≡ points_back (rows_of c.now) q (byte_of s) k }
 {
     let w = row(c, q);
-    (w[STATE_PLACE] == s) & (partner_of(w) == k)
+    (w[STATE_PLACE] == s as u8) & (partner_of(w) == k)
 }
 
 // Whether row k is linked as its state asks.
@@ -144,13 +145,13 @@ fn is_linked(c: &Compartment, k: usize) -> bool
 {
     let w = row(c, k);
     let p = partner_of(w);
-    if w[STATE_PLACE] == LIVE {
+    if w[STATE_PLACE] == State::Live as u8 {
         return p == usize::from(NO_PARTNER);
     }
-    if w[STATE_PLACE] == CANCELLATION {
-        return p < k && points_back(c, p, CANCELLED, k);
+    if w[STATE_PLACE] == State::Cancellation as u8 {
+        return p < k && points_back(c, p, State::Cancelled, k);
     }
-    ((k < p) & (p < ROW_COUNT)) && points_back(c, p, CANCELLATION, k)
+    ((k < p) & (p < ROW_COUNT)) && points_back(c, p, State::Cancellation, k)
 }
 
 // Whether the number of a row is written in these two words; the second is read first, since numbers begin alike.
@@ -212,7 +213,7 @@ fn sound_rows(c: &Compartment) -> bool
     let mut seen = [false; SLOT_COUNT];
     for k in 0..ROW_COUNT {
         let w = row(c, k);
-        if w[STATE_PLACE] == FREE {
+        if w[STATE_PLACE] == State::Free as u8 {
             return text::is_zero(text::rest(c, k * ROW_SIZE));
         }
         let slot = slot_of(w);
@@ -268,7 +269,7 @@ pub fn free_row(c: &[u8]) -> usize
     ensures { result ≡ free_row c.now }
 {
     match c.as_array() {
-        Some(c) => next_with(c, 0, STATE_PLACE, FREE),
+        Some(c) => next_with(c, 0, STATE_PLACE, State::Free as u8),
         None => ROW_COUNT,
     }
 }
@@ -278,8 +279,8 @@ fn is_asked(state: u8, asked: Asked) -> bool
     ensures { result ≡ is_asked asked state }
 {
     match asked {
-        Asked::Live => state == LIVE,
-        Asked::Filled => state != FREE,
+        Asked::Live => state == State::Live as u8,
+        Asked::Filled => state != State::Free as u8,
     }
 }
 

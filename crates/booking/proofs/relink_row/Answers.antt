@@ -4,7 +4,7 @@ use Prim.Native.Nat.{ℕ}
 use native.Mathlib.Omega.{arith}
 use Rattle.frame.specs.Parts.{put}
 use Rattle.frame.proofs.PartLaws.{part_lent, put_lent}
-use Rattle.ledger.specs.Row.{row_size}
+use Rattle.ledger.specs.Row.{row_size, byte_of}
 use Rattle.booking.specs.Booking.{relinked, relinked_at}
 use Rattle.booking.proofs.relink_row.Goals as goal
 
@@ -15,4 +15,4 @@ returns c =
     let whole : List ℕ = a.c.now in
     put_lent row_size a.k _ whole
     ∙ ap (λ (w : List ℕ). put row_size a.k w whole)
-    (c.relink.ensures ∙ ap (relinked a.state a.p) (part_lent row_size a.k whole (omega arith)).0)
+    (c.relink.ensures ∙ ap (relinked (byte_of a.state) a.p) (part_lent row_size a.k whole (omega arith)).0)

@@ -15,16 +15,16 @@ use Rattle.ledger.proofs.sound_rows.Goals as goal
 pub loop-k-init : goal.loop-k-init
 loop-k-init c = (every_none _, every_none _, (λ j m. absurd (omega (arith, m))), refl)
 
-pub returns-then-w-eq-FREE : goal.returns-then-w-eq-FREE
-returns-then-w-eq-FREE c =
+pub returns-then-w : goal.returns-then-w
+returns-then-w c =
     let l = c.loop-k in
     c.is_zero.ensures ∙ ap (all is_zero) c.rest.ensures.bytes
-    ∙ free_rest _ c.told-c l.k c.loop-k-test.true l.invariant.0 (ap state (sym c.row-w.ensures) ∙ c.if-w-eq-FREE.true)
+    ∙ free_rest _ c.told-c l.k c.loop-k-test.true l.invariant.0 (ap state (sym c.row-w.ensures) ∙ c.if-w.true)
 
 pub is_sound_filled-requires : goal.is_sound_filled-requires
 is_sound_filled-requires c =
     let l = c.loop-k in
-    let full = ap filled_row (sym c.row-w.ensures) ∙ ap not (ne_eqb _ _ c.if-w-eq-FREE.false) in
+    let full = ap filled_row (sym c.row-w.ensures) ∙ ap not (ne_eqb _ _ c.if-w.false) in
     let slot = c.slot_of-slot.ensures.0 ∙ ap slot_of c.row-w.ensures in
     record {
       after = record { within = c.loop-k-test.true; sound = l.invariant.0; filled = l.invariant.1 };
@@ -41,7 +41,7 @@ loop-k-preserved c =
     let l = c.loop-k in
     let slot = c.slot_of-slot.ensures.0 ∙ ap slot_of c.row-w.ensures in (
       every_more _ _ l.invariant.0 (sym c.is_sound_filled.ensures ∙ c.if-not-is_sound_filled.false),
-      every_more _ _ l.invariant.1 (ap filled_row (sym c.row-w.ensures) ∙ ap not (ne_eqb _ _ c.if-w-eq-FREE.false)),
+      every_more _ _ l.invariant.1 (ap filled_row (sym c.row-w.ensures) ∙ ap not (ne_eqb _ _ c.if-w.false)),
       marked_more l.seen _ l.k l.invariant.2 slot (omega (arith, l.invariant.3, c.slot_of-slot.ensures.1)),
       simp length-set l.invariant.3,
     )
