@@ -5,13 +5,14 @@ use native.Mathlib.Nat.{lt_of_lt_of_le}
 use native.Mathlib.Omega.{arith}
 use mathlib.Core.Bool.{Bool, true, false, ◌&&◌, ◌||◌, not, cond, false≢true}
 use mathlib.Core.List.{List}
-use mathlib.Core.Path.{◌≡◌, refl, sym}
-use Rattle.std.specs.Prelude.{Ok, Err}
+use mathlib.Core.Path.{◌≡◌, refl, sym, ap}
+use Rattle.std.specs.Prelude.{Ok, Err, Some, None}
+use Rattle.frame.specs.Every.{within}
 use borrow.Author.Tests.{ltb-true}
-use lib.Dec.{lit≤}
+use lib.Dec.{lit≤, ltb}
 use lib.ListN.{length, get_or}
 use Rattle.failures.specs.declared.Failures.{Failures}
-use Rattle.failures.specs.Failures.{added_from, no_failure, is_empty, before_booking, first_place}
+use Rattle.failures.specs.Failures.{added, added_from, no_failure, is_empty, before_booking, first_place}
 use Rattle.failures.proofs.FailureLaws.{none_failed, first_below, before_same}
 use Rattle.fields.specs.Forms.{blank, is}
 use Rattle.tables.specs.Reporters.{reporter_count, has_mailbox}
@@ -53,6 +54,39 @@ none_fails reporters sender true f1 f2 h =
     let judged = found_and_sent (blank f1) (is f1 "B") (is f1 "S") (blank f2) (is_found reporters row) (has_mailbox reporters sender row) in
     let (found, sent) = judged (h 1) (h 2) (h 3) (h 4) (h 5) (h 6) in
     (refl, found, sent)
+
+-- a row that is handed out is the one that F1 and F2 find
+row_within : (n k r : ℕ) → Some r ≡ within n k → r ≡ k
+row_within n k r e = go (ltb k n) e
+  where
+    go : (b : Bool) → Some r ≡ cond b (Some k) None → r ≡ k
+    go true e = cc
+    go false e = cc
+
+-- what the code has in hand: the failures of places 1 to 6, of a record that has its 38 semicolons
+module _ (reporters sender f1 f2 : List ℕ) {failed : Failures} (e : failed ≡ added_from no_failure 1 (reporter_tests reporters sender f1 f2 (reporter_row reporters f1 f2))) where
+  pub check_passes : {r : ℕ} → is_empty failed ≡ true → Some r ≡ within (reporter_count reporters) (reporter_row reporters f1 f2)
+      → Ok r ≡ sender_check reporters sender true f1 f2
+  unfolding sender_check sender_tests added_from added
+  check_passes h found = rw (← e, h) (ap Ok (row_within _ _ _ found))
+
+  pub check_fails : is_empty failed ≡ false → Err failed ≡ sender_check reporters sender true f1 f2
+  unfolding sender_check sender_tests added_from added
+  check_fails h = rw (← e, h) refl
+
+  -- where no row is found, one of them fails
+  pub check_unfound : None ≡ within (reporter_count reporters) (reporter_row reporters f1 f2) → Err failed ≡ sender_check reporters sender true f1 f2
+  unfolding sender_tests added_from added
+  check_unfound none = check_fails (go (is_empty failed) refl)
+    where
+      go : (b : Bool) → is_empty failed ≡ b → is_empty failed ≡ false
+      go true h =
+          let tests = sender_tests reporters sender true f1 f2 in
+          let l : length tests ≤ 7 = tests_length reporters sender true f1 f2 in
+          let (all, found, sent) = none_fails reporters sender true f1 f2 (none_failed tests 0 (rw e at h) (omega arith)) in
+          let some = rw found at none in
+          cc
+      go false h = h
 
 module _ (reporters sender : List ℕ) (whole : Bool) (f1 f2 : List ℕ) where
   pub passed_row : {r : ℕ} → sender_check reporters sender whole f1 f2 ≡ Ok r
