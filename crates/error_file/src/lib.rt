@@ -59,6 +59,7 @@ fn codes_named(index: &Index, answers: &[u8], n: usize) -> bool
 }
 
 // Which of the refusals 15 to 18 applies first to a report of n records.
+#[tactic(auto, using(frame::proofs::ReplyLaws::test_applies, frame::proofs::ReplyLaws::test_passes, frame::proofs::ReplyLaws::first_end))]
 fn flaw(answers: &[u8], index: &Index, date: &[u8], time: &[u8], n: usize) -> Result<(), Refusal>
     requires { n ≤ record_count_limit }
     ensures { number_in result ≡ first_of

@@ -14,5 +14,6 @@ pub returns : goal.returns
 returns c =
     let mirrored : c.count.result ≡ length (take_while (belongs_to c.args.k) c.rest.result.now) =
     count_from_yields_List c.take_while.result _ c.count.ensures.ran
-    (YieldsList-from_take_while _ (belongs_to c.args.k) (YieldsList-from_slice _ cc) c.take_while.ensures.closure c.take_while.ensures.done (λ x b q h. search (rules, tests))) in
+    (YieldsList-from_take_while _ (belongs_to c.args.k) (YieldsList-from_slice _ cc) c.take_while.ensures.closure
+    c.take_while.ensures.done (λ x b q h. search (rules, tests))) in
     ap (λ (n : ℕ). c.args.at + n) (rw (← c.rest.ensures.bytes) (mirrored ∙ counted_run _ _))
