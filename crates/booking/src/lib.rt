@@ -84,6 +84,7 @@ fn can_book(c: &[u8], f: usize, n: &[u8]) -> bool
 }
 
 // Books number n, quantity q and side s in row f, and cancels row p where p is a row; nothing where no booking can be made.
+// As it is: six parameters, the six of the clause booked f n q s p c; a struct of n, q and s would be made here only to be taken apart in fill_row.
 pub fn book(c: &mut [u8], f: usize, n: &[u8], q: u64, s: u8, p: usize)
     ensures { c.new ≡ booked f n.now q s p c.old }
 {
