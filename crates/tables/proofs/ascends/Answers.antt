@@ -1,4 +1,4 @@
-use Rattle.std.proofs.Common.{◌<◌, [], refl, sym, ◌∙◌, arith}
+use Rattle.std.proofs.Common.{◌≤◌, ◌<◌, [], refl, sym, ◌∙◌, arith}
 use Rattle.frame.proofs.EveryLaws.{every_none, every_more, every_broke, every_done}
 use Rattle.tables.specs.Currencies.{currency_count}
 use Rattle.tables.proofs.CodeLaws.{code_low, code_special, code_in_order, code_kept}
