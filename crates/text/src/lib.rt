@@ -1,10 +1,10 @@
 // Bytes and slices of them: classes, comparison, search, parts, numbers as bytes.
 #![tactic(auto)]
 
-ghost use Rattle.std.specs.Prelude.{◌≡◌, ◌<◌, ℕ, eqb, length, take, drop};
+ghost use Rattle.std.specs.Prelude.{◌≡◌, ℕ, eqb, length, take, drop};
 ghost use Rattle.frame.specs.Every.{within};
 ghost use Rattle.text.specs.Class.{belongs_to, is_word_byte, is_record_byte, is_text_byte, is_zero};
-ghost use Rattle.text.specs.Bytes.{all as all_of, same as same_bytes, position_of};
+ghost use Rattle.text.specs.Bytes.{all as all_of, position_of};
 ghost use Rattle.text.specs.Part.{Lies, rest_start};
 ghost use Rattle.text.specs.Number.{big_endian, number_at, number_put};
 
@@ -211,30 +211,4 @@ pub fn is_zero(s: &[u8]) -> bool
 {
     let (blocks, rest) = s.as_chunks::<ZERO_BLOCK>();
     blocks.iter().all(|block| all(Class::Zero, block)) && all(Class::Zero, rest)
-}
-
-// Until the crates above call the library and read and write themselves.
-pub fn wide(b: u8) -> u64
-    ensures { (result ≡ b) × (result < 256) }
-{
-    u64::from(b)
-}
-
-#[tactic(auto, using(crate::proofs::SameLaws::eq_same))]
-pub fn same(a: &[u8], b: &[u8]) -> bool
-    ensures { result ≡ same_bytes a.now b.now }
-{
-    a == b
-}
-
-pub fn write_u16(s: &mut [u8], at: usize, x: u16)
-    ensures { s.new ≡ number_put 2 at x s.old }
-{
-    write(s, at, x);
-}
-
-pub fn write_u64(s: &mut [u8], at: usize, x: u64)
-    ensures { s.new ≡ number_put 8 at x s.old }
-{
-    write(s, at, x);
 }
