@@ -22,6 +22,7 @@ use tables::Tables;
 const NO_ROW: usize = 65535;
 
 // Places 0 to 60 of a record: the row for which it passes the sender check, 255 for none, and its failures.
+// As it is: 255 is the answer record's own number for none, and formal_in and step_answer, on which the theorems stand, say it so.
 #[derive(Clone, Copy)]
 pub struct Formal {
     pub row: usize,
@@ -29,6 +30,7 @@ pub struct Formal {
 }
 
 // What a booking enters and cancels: where the record's number lies, its quantity and its side, and the live row that it names, 64 for none.
+// As it is: 64 for none is what named_row finds and booked takes, definitions under the theorems.
 #[derive(Clone, Copy)]
 pub(crate) struct Entry {
     pub number: Place,

@@ -7,6 +7,7 @@ use mathlib.Core.List.{List, [], ◌∷◌}
 use mathlib.Core.Logic.{◌≢◌}
 use mathlib.Core.Path.{◌≡◌, refl, ap, sym, ◌∙◌}
 use borrow.Author.Tests.{eq-eqb, ne_eqb, eqb-true, eqb-false, lt-ltb, le-ltb, le-leb, ltb-true, ltb-false}
+use Rattle.std.specs.Prelude.{Result, Ok, Err}
 use lib.Dec.{eqb, ltb}
 use lib.ListN.{length}
 use Rattle.frame.specs.Reply.{Reply, refused, accepted, refusal_in}
@@ -16,27 +17,21 @@ use Rattle.identifier.specs.Isin.{letter_sum}
 use Rattle.identifier.proofs.IsinLaws.{letter_sum_lem}
 use Rattle.tables.specs.Tables.{Tables}
 use Rattle.ledger.specs.Sound.{ledger_flaw}
+use Rattle.refusal.specs.declared.Refusal.{Refusal}
+use Rattle.refusal.specs.Refusal.{number_of, number_in}
+use Rattle.refusal.proofs.RefusalLaws.{number_some}
 use Rattle.answer.specs.declared.Answer.{Answer}
 use Rattle.answer.specs.Answer.{answer_size, answer_bytes, answer_put}
 use Rattle.page.specs.Page.{WriteOutcome, write_outcome, wrote_into}
-use Rattle.error_file.specs.declared.Wrote.{Wrote}
-use Rattle.error_file.specs.declared.Wrote.TheVariants as Error
 use Rattle.error_file.specs.ErrorFile.{error_file_of, wrote_as}
-use Rattle.calls.specs.declared.Replied.{Replied}
-use Rattle.calls.specs.declared.Replied.TheVariants.{Refused, Answered}
-use Rattle.calls.specs.declared.filing.Filed.{Filed}
-use Rattle.calls.specs.declared.filing.Filed.TheVariants as File
 use Rattle.calls.specs.Call.{Call}
-use Rattle.calls.specs.Replied.{replied_as, filed_as, outcome}
+use Rattle.calls.specs.Replied.{filed_as, outcome}
 use Rattle.calls.specs.Filing.{FileOutcome, file_outcome, reading_of, carried_out, file_of}
-use Rattle.capi.specs.Exported.{exported, short_number, told_into, single_reply, single_export, file_export, write_reply, error_export, sum_export}
+use Rattle.capi.specs.Exported.{exported, short_number, told_into, counted_into, single_reply, single_export, file_export, write_reply, error_export, sum_export}
 
--- a call whose buffer is too short: its own refusal, else 12
-pub short_refused : {n m : ℕ} → n ≢ 0 → m ≡ n → m ≡ short_number n
-short_refused h q = q ∙ rw (ne_eqb _ 0 h) refl
-
-pub short_free : {n : ℕ} → n ≡ 0 → 12 ≡ short_number n
-short_free z = rw (eq-eqb _ 0 z) refl
+-- a call whose buffer is too short, by its own refusal
+pub short_refused : (why : Refusal) → number_of why ≡ short_number (number_of why)
+short_refused why = rw (ne_eqb _ 0 (number_some why)) refl
 
 -- the three returns of a call of one record, by its number
 module _ {number : ℕ} {o : Outcome (List ℕ) (List ℕ)} (l : List ℕ) (decided : Decided number o l) (a : List ℕ) where
@@ -48,26 +43,25 @@ module _ {number : ℕ} {o : Outcome (List ℕ) (List ℕ)} (l : List ℕ) (deci
       go true q = let w = decided.answers (eqb-true _ _ q) in rw (w.1, lt-ltb _ _ h) refl
       go false q = rw (decided.refuses (eqb-false _ _ q)) refl
 
-  pub refused_exported : {r : Replied} {n k : ℕ} (m : List ℕ) → r ≡ Refused n → outcome r m ≡ o → k ≡ n → exported k m a [] ≡ single_export o l a
+  refused_exported : {n k : ℕ} (m : List ℕ) → record { reply = refused n; store = m } ≡ o → k ≡ n → exported k m a [] ≡ single_export o l a
   unfolding single_export
-  refused_exported {r} {n} m q e w = ap (λ (k : ℕ). exported k m a []) w ∙ go (ap (λ (x : Replied). outcome x m) (sym q) ∙ e) (eqb number 0) refl
+  refused_exported {n} m e w = ap (λ (k : ℕ). exported k m a []) w ∙ go (eqb number 0) refl
     where
-      go : outcome (Refused n) m ≡ o → (b : Bool) → eqb number 0 ≡ b → exported n m a [] ≡ single_reply o l a o.reply
-      go e true q =
+      go : (b : Bool) → eqb number 0 ≡ b → exported n m a [] ≡ single_reply o l a o.reply
+      go true q =
           let w = decided.answers (eqb-true _ _ q) in
           let z : refused n ≡ accepted w.0 = ap (λ (x : Outcome (List ℕ) (List ℕ)). x.reply) e ∙ w.1 in
           let y : ◌≡◌ {A = ℕ} 0 1 = cc in
           absurd (omega arith)
-      go e false q =
+      go false q =
           let same : m ≡ l = ap (λ (x : Outcome (List ℕ) (List ℕ)). x.store) (e ∙ decided.refuses (eqb-false _ _ q)) in
           let told : o.reply ≡ refused n = sym (ap (λ (x : Outcome (List ℕ) (List ℕ)). x.reply) e) in
           rw (told, same) refl
 
-  pub answered_exported : {r : Replied} (w : Answer) (m : List ℕ) {b : List ℕ} → answer_size ≤ length a → r ≡ Answered w → outcome r m ≡ o
+  answered_exported : (w : Answer) (m : List ℕ) {b : List ℕ} → answer_size ≤ length a → outcome (Ok w) m ≡ o
       → b ≡ answer_put 0 w a → exported 0 m b [] ≡ single_export o l a
   unfolding single_export answer_put
-  answered_exported {r} w m {b} h q f p =
-      let e : outcome (Answered w) m ≡ o = ap (λ (x : Replied). outcome x m) (sym q) ∙ f in
+  answered_exported w m {b} h e p =
       let reply : o.reply ≡ accepted (answer_bytes w) = sym (ap (λ (x : Outcome (List ℕ) (List ℕ)). x.reply) e) in
       let ledger : m ≡ o.store = ap (λ (x : Outcome (List ℕ) (List ℕ)). x.store) e in
       rw (p, le-leb _ _ h, reply, le-ltb _ _ h, ledger) refl
@@ -78,11 +72,11 @@ module _ {number : ℕ} {o : Outcome (List ℕ) (List ℕ)} (l : List ℕ) (deci
   pub short_told : {n r : ℕ} → short ≡ true → r ≡ short_number n → n ≡ number → exported r l a [] ≡ single_export o l a
   short_told h r n = short_exported l decided a (ltb-true _ _ (sym s ∙ h)) (r ∙ ap short_number n)
 
-  pub told_exported : (r : Replied) (m : List ℕ) {k : ℕ} {b : List ℕ} → short ≡ false → outcome r m ≡ o
-      → (k ≡ refusal_in (replied_as r)) × (b ≡ told_into r a) → exported k m b [] ≡ single_export o l a
-  told_exported (Refused n) m {k = r} h e (k, b) = ap (λ (c : List ℕ). exported r m c []) b ∙ refused_exported l decided a m refl e k
-  told_exported (Answered w) m {b = c} h e (k, b) =
-      ap (λ (n : ℕ). exported n m c []) k ∙ answered_exported l decided a w m (ltb-false _ _ (sym s ∙ h)) refl e b
+  pub told_exported : (r : Result Answer Refusal) (m : List ℕ) {k : ℕ} {b : List ℕ} → short ≡ false → outcome r m ≡ o
+      → k ≡ number_in r → b ≡ told_into r a → exported k m b [] ≡ single_export o l a
+  told_exported (Err why) m {k = n} h e k b = ap (λ (c : List ℕ). exported n m c []) b ∙ refused_exported l decided a m e k
+  told_exported (Ok w) m {b = c} h e k b =
+      ap (λ (n : ℕ). exported n m c []) k ∙ answered_exported l decided a w m (ltb-false _ _ (sym s ∙ h)) e b
 
 -- a refused file call leaves ledger and buffer
 pub file_kept : (tables : Tables) (file l a : List ℕ) (n : ℕ) → (file_of tables file l a).reply ≡ refused n
@@ -94,21 +88,18 @@ file_kept tables file l a n = go (reading_of tables file (length a) (ledger_flaw
     go (refused m) e = ap (λ (r : Reply ℕ). file_outcome r l a) e
     go (accepted calls) e = let y : ◌≡◌ {A = ℕ} 0 1 = cc in absurd (omega arith)
 
--- the two returns of a file call
-module _ (tables : Tables) (file l a : List ℕ) (r : Filed) (m b : List ℕ) (o : file_outcome (filed_as r) m b ≡ file_of tables file l a)
-    (word : ℕ) where
-  pub file_refused : {n k : ℕ} → r ≡ File.Refused n → k ≡ n → exported k m b (word ∷ []) ≡ file_export tables file l a word
+-- a file call, its reply told
+module _ (tables : Tables) (file l a m b : List ℕ) (word : ℕ) where
+  pub file_exported : (r : Result ℕ Refusal) {k w : ℕ} → file_outcome (filed_as r) m b ≡ file_of tables file l a
+      → k ≡ number_in r → w ≡ counted_into r word → exported k m b (w ∷ []) ≡ file_export tables file l a word
   unfolding file_export
-  file_refused {n} e w =
-      let reply : (file_of tables file l a).reply ≡ refused n = sym (ap (λ (x : FileOutcome). x.reply) o) ∙ ap filed_as e in
-      let kept : file_outcome (filed_as r) m b ≡ file_outcome (refused n) l a = o ∙ file_kept tables file l a n reply in
-      (λ i. exported (w i) (kept i).store (kept i).buffer (word ∷ [])) ∙ rw reply refl
-
-  pub file_counted : {n : ℕ} → r ≡ File.Count n → exported 0 m b (n ∷ []) ≡ file_export tables file l a word
-  unfolding file_export
-  file_counted {n} e =
-      let reply : (file_of tables file l a).reply ≡ accepted n = sym (ap (λ (x : FileOutcome). x.reply) o) ∙ ap filed_as e in
-      (λ i. exported 0 (o i).store (o i).buffer (n ∷ [])) ∙ rw reply refl
+  file_exported (Err why) o n u =
+      let reply : (file_of tables file l a).reply ≡ refused (number_of why) = sym (ap (λ (x : FileOutcome). x.reply) o) in
+      let kept : file_outcome (refused (number_of why)) m b ≡ file_outcome (refused (number_of why)) l a = o ∙ file_kept tables file l a _ reply in
+      (λ i. exported (n i) (kept i).store (kept i).buffer (u i ∷ [])) ∙ rw reply refl
+  file_exported (Ok count) o n u =
+      let reply : (file_of tables file l a).reply ≡ accepted count = sym (ap (λ (x : FileOutcome). x.reply) o) in
+      (λ i. exported (n i) (o i).store (o i).buffer (u i ∷ [])) ∙ rw reply refl
 
 -- the two returns of a call that writes a text
 length_in : Reply ℕ → ℕ
@@ -133,18 +124,14 @@ told_wrote out word b n (refused m) o =
     absurd (omega arith)
 told_wrote out word b n (accepted t) o = (λ i. exported 0 [] (o i).buffer (length_in (o i).reply ∷ []))
 
-module _ (report answers member ours date time out : List ℕ) (r : Wrote) (b : List ℕ)
-    (o : write_outcome (wrote_as r) b ≡ wrote_into out (error_file_of member ours answers date time report (length out))) (word : ℕ) where
-  pub error_refused : {n k : ℕ} → r ≡ Error.Refused n → k ≡ n
-      → exported k [] b (word ∷ []) ≡ error_export report answers member ours date time out word
-  unfolding error_export
-  error_refused {n} e w =
-      ap (λ (k : ℕ). exported k [] b (word ∷ [])) w
-      ∙ refused_wrote out word b n _ (ap (λ (x : Wrote). write_outcome (wrote_as x) b) (sym e) ∙ o)
-
-  pub error_told : {n : ℕ} → r ≡ Error.Length n → exported 0 [] b (n ∷ []) ≡ error_export report answers member ours date time out word
-  unfolding error_export
-  error_told {n} e = told_wrote out word b n _ (ap (λ (x : Wrote). write_outcome (wrote_as x) b) (sym e) ∙ o)
+pub error_exported : (report answers member ours date time out b : List ℕ) (word : ℕ) (r : Result ℕ Refusal) {k w : ℕ}
+    → write_outcome (wrote_as r) b ≡ wrote_into out (error_file_of member ours answers date time report (length out))
+    → k ≡ number_in r → w ≡ counted_into r word → exported k [] b (w ∷ []) ≡ error_export report answers member ours date time out word
+unfolding error_export
+error_exported report answers member ours date time out b word (Err why) o n u =
+    (λ i. exported (n i) [] b (u i ∷ [])) ∙ refused_wrote out word b (number_of why) _ o
+error_exported report answers member ours date time out b word (Ok length) o n u =
+    (λ i. exported (n i) [] b (u i ∷ [])) ∙ told_wrote out word b length _ o
 
 -- the sum letter by letter, told for the sum over the digits
 pub sum_told : {n : ℕ} {s t : List ℕ} → n ≡ letter_sum t % 10 → t ≡ s → n ≡ sum_export s

@@ -2,17 +2,17 @@
 -- out, else the number of its refusal, and then leaves every lent byte as it was; what it tells beside that stands in lent words. The two that are never
 -- refused return what they tell.
 -- Assumes nothing.
-use Rattle.std.specs.Prelude.{ℕ, ◌%◌, cond, List, [], ◌∷◌, ◌++◌, ltb, eqb, length, drop}
+use Rattle.std.specs.Prelude.{ℕ, ◌%◌, cond, List, [], ◌∷◌, ◌++◌, ltb, eqb, length, drop, Result, Ok, Err}
 use Rattle.frame.specs.Reply.{Reply, refused, accepted}
 use Rattle.frame.specs.Isolation.{Outcome, single}
 use Rattle.tables.specs.Tables.{Tables}
+use Rattle.refusal.specs.declared.Refusal.{Refusal}
+use Rattle.answer.specs.declared.Answer.{Answer}
 use Rattle.answer.specs.Answer.{answer_size, answer_put}
 use Rattle.fields.specs.declared.Place.{Place}
 use Rattle.fields.specs.Fields.{field_place}
 use Rattle.identifier.specs.Isin.{digit_sum}
 use Rattle.error_file.specs.ErrorFile.{error_file_of}
-use Rattle.calls.specs.declared.Replied.{Replied}
-use Rattle.calls.specs.declared.Replied.TheVariants.{Refused, Answered}
 use Rattle.calls.specs.Call.{called}
 use Rattle.calls.specs.Judging.{booking, booking_rules, judged_of, in_a_row}
 use Rattle.calls.specs.Filing.{FileOutcome, file_of}
@@ -28,9 +28,14 @@ abbrev pub exported : ℕ → List ℕ → List ℕ → List ℕ → Exported
 exported n l a ws = record { reply = n; store = l; buffer = a; words = ws }
 
 -- the buffer once a reply is told: an answer at its start
-abbrev pub told_into : Replied → List ℕ → List ℕ
-told_into (Refused n) a = a
-told_into (Answered w) a = answer_put 0 w a
+abbrev pub told_into : Result Answer Refusal → List ℕ → List ℕ
+told_into (Err why) a = a
+told_into (Ok w) a = answer_put 0 w a
+
+-- the lent word once a count is told
+abbrev pub counted_into : Result ℕ Refusal → ℕ → ℕ
+counted_into (Err why) word = word
+counted_into (Ok count) word = count
 
 -- a call of one record: the answer's sixteen bytes at the buffer's start. The last of its refusals is 12, a buffer under sixteen bytes
 abbrev pub single_reply : Outcome (List ℕ) (List ℕ) → List ℕ → List ℕ → Reply (List ℕ) → Exported

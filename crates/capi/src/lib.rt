@@ -5,18 +5,15 @@
 ghost use Rattle.std.specs.Prelude.{[], ◌∷◌, ◌≡◌, ltb, length};
 ghost use Rattle.answer.specs.Answer.{answer_size};
 ghost use Rattle.tables.specs.Tables.{tables_of};
-ghost use Rattle.frame.specs.Reply.{refusal_in};
-ghost use Rattle.calls.specs.Replied.{replied_as};
-ghost use Rattle.capi.specs.Exported.{told_into, exported, record_export, judge_export, book_export, file_export, short_number};
+ghost use Rattle.refusal.specs.Refusal.{number_in};
+ghost use Rattle.capi.specs.Exported.{told_into, counted_into, exported, record_export, judge_export, book_export, file_export, short_number};
 ghost use Rattle.capi.specs.Exported.{field_numbers, field_export, error_export, sum_export};
 
-use calls::Replied;
-use calls::filing::Filed;
-use error_file::Wrote;
-use text::wide;
-
-// The refusal of an answer buffer that is too short.
-const SHORT_BUFFER: u64 = 12;
+use answer::Answer;
+use calls::Call;
+use refusal::Refusal;
+use tables::Tables;
+use texts::Lists;
 
 // Whether a buffer has no room for one answer.
 fn is_short(answer: &[u8]) -> bool
@@ -26,51 +23,73 @@ fn is_short(answer: &[u8]) -> bool
 }
 
 // The number of a call whose buffer is too short: its own refusal, else 12. Nothing is booked.
-fn short_number(n: u8) -> u64
-    ensures { result ≡ short_number n }
+fn short_number(refused: Result<(), Refusal>) -> u64
+    ensures { result ≡ short_number (number_in refused) }
 {
-    if n != 0 { wide(n) } else { SHORT_BUFFER }
+    match refused {
+        Ok(()) => u64::from(Refusal::ShortBuffer),
+        Err(own) => u64::from(own),
+    }
 }
 
 // Tells the reply of a call of one record: the number of its refusal; or 0, with the answer's sixteen bytes at the start of the answer buffer.
-fn tell(replied: Replied, answer: &mut [u8]) -> u64
-    ensures value { result ≡ refusal_in (replied_as replied) }
+fn tell(replied: Result<Answer, Refusal>, answer: &mut [u8]) -> u64
+    ensures value { result ≡ number_in replied }
     ensures answer_after { answer.new ≡ told_into replied answer.old }
 {
     match replied {
-        Replied::Refused(n) => wide(n),
-        Replied::Answered(a) => {
-            answer::write(a, answer, 0);
+        Ok(told) => {
+            answer::write(told, answer, 0);
             0
         }
+        Err(why) => u64::from(why),
+    }
+}
+
+// Tells the reply of a call that counts: the number of its refusal; or 0, with the count in the lent word.
+fn tell_count(counted: Result<usize, Refusal>, word: &mut u64) -> u64
+    ensures value { result ≡ number_in counted }
+    ensures word_after { word.new ≡ counted_into counted word.old }
+{
+    match counted {
+        Ok(count) => {
+            *word = count as u64;
+            0
+        }
+        Err(refusal) => u64::from(refusal),
     }
 }
 
 // The single-record call: the answer's sixteen bytes at the start of the answer buffer.
-pub fn roselhanda_record<'a>(
-    reporters: &'a [u8],
-    currencies: &'a [u8],
+// As it is: the parameters, here and below, are those of the C interface, which capi_c passes on one by one.
+pub fn roselhanda_record(
+    reporters: &[u8],
+    currencies: &[u8],
     ledger: &mut [u8],
-    sender: &'a [u8],
-    record: &'a [u8],
+    sender: &[u8],
+    record: &[u8],
     answer: &mut [u8],
 ) -> u64
     ensures { exported result ledger.new answer.new []
         ≡ record_export (tables_of reporters.now currencies.now) sender.now «record».now ledger.old
         answer.old }
 {
+    let tables = Tables {
+        reporters,
+        currencies,
+    };
+    let call = Call { sender, record };
     if is_short(answer) {
-        return short_number(calls::refusal(reporters, currencies, ledger, sender, record));
+        return short_number(calls::refusal(tables, ledger, call));
     }
-    let replied = calls::record_call(reporters, currencies, ledger, sender, record);
-    tell(replied, answer)
+    tell(calls::record_call(tables, ledger, call), answer)
 }
 
 // The file call: sixteen bytes a record from the start of the answer buffer, and in the lent word the count of records.
-pub fn roselhanda_file<'a>(
-    file: &'a [u8],
-    reporters: &'a [u8],
-    currencies: &'a [u8],
+pub fn roselhanda_file(
+    file: &[u8],
+    reporters: &[u8],
+    currencies: &[u8],
     ledger: &mut [u8],
     answers: &mut [u8],
     records: &mut u64,
@@ -79,56 +98,64 @@ pub fn roselhanda_file<'a>(
         ≡ file_export (tables_of reporters.now currencies.now) file.now ledger.old answers.old
         records.old }
 {
-    match calls::filing::file_call(file, reporters, currencies, ledger, answers) {
-        Filed::Refused(n) => wide(n),
-        Filed::Count(n) => {
-            *records = n as u64;
-            0
-        }
-    }
+    let tables = Tables {
+        reporters,
+        currencies,
+    };
+    let filed = calls::filing::file_call(file, tables, ledger, answers);
+    tell_count(filed, records)
 }
 
 // Judging: the answer's sixteen bytes at the start of the answer buffer. The ledger is lent for reading only.
-pub fn roselhanda_judge<'a>(
-    reporters: &'a [u8],
-    currencies: &'a [u8],
-    ledger: &'a [u8],
-    sender: &'a [u8],
-    record: &'a [u8],
+pub fn roselhanda_judge(
+    reporters: &[u8],
+    currencies: &[u8],
+    ledger: &[u8],
+    sender: &[u8],
+    record: &[u8],
     answer: &mut [u8],
 ) -> u64
     ensures { exported result ledger.now answer.new []
         ≡ judge_export (tables_of reporters.now currencies.now) sender.now «record».now ledger.now
         answer.old }
 {
+    let tables = Tables {
+        reporters,
+        currencies,
+    };
+    let call = Call { sender, record };
     if is_short(answer) {
-        return short_number(calls::refusal(reporters, currencies, ledger, sender, record));
+        return short_number(calls::refusal(tables, ledger, call));
     }
-    let replied = calls::judging::judge_call(reporters, currencies, ledger, sender, record);
-    tell(replied, answer)
+    tell(calls::judging::judge_call(tables, ledger, call), answer)
 }
 
 // Booking by an earlier answer: the answer's sixteen bytes at the start of the answer buffer.
-pub fn roselhanda_book<'a>(
-    reporters: &'a [u8],
-    currencies: &'a [u8],
+pub fn roselhanda_book(
+    reporters: &[u8],
+    currencies: &[u8],
     ledger: &mut [u8],
-    sender: &'a [u8],
-    record: &'a [u8],
-    earlier: &'a [u8],
+    sender: &[u8],
+    record: &[u8],
+    earlier: &[u8],
     answer: &mut [u8],
 ) -> u64
     ensures { exported result ledger.new answer.new []
         ≡ book_export (tables_of reporters.now currencies.now) sender.now «record».now earlier.now
         ledger.old answer.old }
 {
+    let tables = Tables {
+        reporters,
+        currencies,
+    };
+    let call = Call { sender, record };
     if is_short(answer) {
-        return short_number(calls::earlier::booking_refusal(
-            reporters, currencies, ledger, sender, record, earlier,
-        ));
+        return short_number(calls::earlier::booking_refusal(tables, ledger, call, earlier));
     }
-    let replied = calls::earlier::book_call(reporters, currencies, ledger, sender, record, earlier);
-    tell(replied, answer)
+    tell(
+        calls::earlier::book_call(tables, ledger, call, earlier),
+        answer,
+    )
 }
 
 // The field view: where field n of the record starts, and in the lent word how long it is.
@@ -141,13 +168,13 @@ pub fn roselhanda_field(record: &[u8], n: u64, length: &mut u64) -> u64
 }
 
 // The error file: from the start of out, and in the lent word how long it is.
-pub fn roselhanda_error_file<'a>(
-    report: &'a [u8],
-    answers: &'a [u8],
-    member_texts: &'a [u8],
-    our_texts: &'a [u8],
-    date: &'a [u8],
-    time: &'a [u8],
+pub fn roselhanda_error_file(
+    report: &[u8],
+    answers: &[u8],
+    member_texts: &[u8],
+    our_texts: &[u8],
+    date: &[u8],
+    time: &[u8],
     out: &mut [u8],
     written: &mut u64,
 ) -> u64
@@ -155,13 +182,12 @@ pub fn roselhanda_error_file<'a>(
         ≡ error_export report.now answers.now member_texts.now our_texts.now date.now
         time.now out.old written.old }
 {
-    match error_file::write(report, answers, member_texts, our_texts, date, time, out) {
-        Wrote::Refused(n) => wide(n),
-        Wrote::Length(n) => {
-            *written = n as u64;
-            0
-        }
-    }
+    let lists = Lists {
+        member: member_texts,
+        ours: our_texts,
+    };
+    let wrote = error_file::write(report, answers, lists, date, time, out);
+    tell_count(wrote, written)
 }
 
 // The sum over an ISIN without its check digit, or over any text, modulo 10.

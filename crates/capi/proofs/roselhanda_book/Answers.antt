@@ -10,5 +10,5 @@ returns-then-is_short c =
 
 pub returns : goal.returns
 returns c =
-    told_exported _ (single_decided (booking_rules _) _ _) _ c.is_short.ensures c.book_call-replied.result _ c.if-is_short.false
-    c.book_call-replied.ensures (c.tell.ensures.value, c.tell.ensures.answer_after)
+    told_exported _ (single_decided (booking_rules _) _ _) _ c.is_short.ensures c.book_call.result _ c.if-is_short.false
+    c.book_call.ensures c.tell.ensures.value c.tell.ensures.answer_after

@@ -1,10 +1,6 @@
-use Rattle.capi.proofs.ExportLaws.{file_refused, file_counted}
+use Rattle.capi.proofs.ExportLaws.{file_exported}
 use Rattle.capi.proofs.roselhanda_file.Goals as goal
 
-pub returns-in-Refused : goal.returns-in-Refused
-returns-in-Refused c =
-    file_refused _ _ _ _ _ _ _ c.file_call.ensures _ c.in-Refused.is c.wide.ensures.0
-
-pub returns-in-Count : goal.returns-in-Count
-returns-in-Count c =
-    file_counted _ _ _ _ _ _ _ c.file_call.ensures _ c.in-Count.is
+pub returns : goal.returns
+returns c =
+    file_exported _ _ _ _ _ _ _ c.file_call-filed.result c.file_call-filed.ensures c.tell_count.ensures.value c.tell_count.ensures.word_after

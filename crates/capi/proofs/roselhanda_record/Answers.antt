@@ -9,5 +9,5 @@ returns-then-is_short c =
 
 pub returns : goal.returns
 returns c =
-    told_exported _ (row_decided _ _ _) _ c.is_short.ensures c.record_call-replied.result _ c.if-is_short.false
-    c.record_call-replied.ensures (c.tell.ensures.value, c.tell.ensures.answer_after)
+    told_exported _ (row_decided _ _ _) _ c.is_short.ensures c.record_call.result _ c.if-is_short.false
+    c.record_call.ensures c.tell.ensures.value c.tell.ensures.answer_after
