@@ -75,6 +75,9 @@ module _ (answers body : List ℕ) (k at : ℕ) (h : Lined answers body k at) wh
         let digits = code_known (code_in answers k) (not-true (is_no_code (code_in answers k)) known) in
         omega (arith, digits)
 
+-- where the next line ends, and its number
+pub ruleset lining = (lined_placed, lined_few)
+
 -- what is written for a record and for those behind it
 module _ (member ours : List ℕ) where
   joined : (r n c g t l : List ℕ) → r ++ (n ++ ((c ++ g ++ t) ++ (n ++ l))) ≡ ((r ++ n) ++ c ++ g ++ t ++ n) ++ l

@@ -106,6 +106,7 @@ impl Texts<'_, '_> {
     }
 
     // How many bytes are written for the records of a body.
+    #[tactic(auto, using(crate::proofs::PieceLaws::lining))]
     fn pieces_size(&self, answers: &[u8], body: &[u8]) -> usize
         requires { Lined answers.now body.now 0 0 }
         ensures { (result ≡ length (pieces_from self.now.index.lists.member.now
@@ -141,6 +142,7 @@ impl Texts<'_, '_> {
     }
 
     // Writes the refused records of a body, each with the line of its code.
+    #[tactic(auto, using(crate::proofs::PieceLaws::lining))]
     fn append_pieces(&self, page: &mut Page, answers: &[u8], body: &[u8])
         requires { Lined answers.now body.now 0 0 }
         ensures { page.new ≡ with_text page.old (pieces_from self.now.index.lists.member.now

@@ -4,31 +4,8 @@ use mathlib.Core.Path.{◌≡◌, sym, ◌∙◌}
 use lib.ListN.{length-take}
 use Rattle.std.specs.Prelude.{Some}
 use Rattle.envelope.specs.Body.{line_end}
-use Rattle.error_file.proofs.PieceLaws.{Summed, summed_start, summed_more, summed_done, lined_placed, lined_few, lined_code}
+use Rattle.error_file.proofs.PieceLaws.{Summed, summed_start, summed_more, summed_done, lined_placed, lined_code}
 use Rattle.error_file.proofs.Texts.pieces_size.Goals as goal
-
-pub slice_bounds-piece_size-count : goal.slice_bounds-piece_size-count
-slice_bounds-piece_size-count c =
-    let found : line_end c.args.body.now c.loop-next.at ≡ Some c.in-Some.next = sym c.line_end.ensures ∙ c.in-Some.is in
-    omega (arith, lined_placed _ _ _ _ c.loop-next.invariant.lined _ found)
-
-pub slice_bounds-piece_size-start : goal.slice_bounds-piece_size-start
-slice_bounds-piece_size-start c =
-    let found : line_end c.args.body.now c.loop-next.at ≡ Some c.in-Some.next = sym c.line_end.ensures ∙ c.in-Some.is in
-    omega (arith, lined_placed _ _ _ _ c.loop-next.invariant.lined _ found)
-
-pub slice_bounds-piece_size-end : goal.slice_bounds-piece_size-end
-slice_bounds-piece_size-end c =
-    let found : line_end c.args.body.now c.loop-next.at ≡ Some c.in-Some.next = sym c.line_end.ensures ∙ c.in-Some.is in
-    omega (arith, lined_placed _ _ _ _ c.loop-next.invariant.lined _ found)
-
-pub loop-next-smaller : goal.loop-next-smaller
-loop-next-smaller c =
-    let found : line_end c.args.body.now c.loop-next.at ≡ Some c.in-Some.next = sym c.line_end.ensures ∙ c.in-Some.is in
-    omega (arith, lined_placed _ _ _ _ c.loop-next.invariant.lined _ found)
-
-pub overflow_add-k : goal.overflow_add-k
-overflow_add-k c = omega (arith, lined_few _ _ _ _ c.loop-next.invariant.lined _ (sym c.line_end.ensures ∙ c.in-Some.is))
 
 pub loop-next-init : goal.loop-next-init
 loop-next-init c = summed_start _ _ _ _ c.requires
