@@ -29,9 +29,9 @@ use Rattle.std.specs.Prelude.{Result, Err}
 use Rattle.refusal.specs.declared.Refusal.{Refusal}
 use Rattle.refusal.specs.Refusal.{number_of}
 use Rattle.envelope.specs.Pieces.{between}
-use Rattle.envelope.specs.Envelope.{file_limit, report_of, opened_as, sender_of, control_word_of, records_from}
+use Rattle.envelope.specs.Envelope.{file_limit, report_class, report_of, opened_as, sender_of, control_word_of, records_from}
 use Rattle.envelope.specs.Written.{lines_then}
-use Rattle.envelope.proofs.OpenedLaws.{Whole}
+use Rattle.envelope.proofs.OpenedLaws.{Whole, opened_whole}
 use Rattle.page.specs.declared.Page.{Page as Lent}
 use Rattle.page.specs.Lent.{with_text}
 use Rattle.page.specs.Page.{WriteOutcome, write_outcome, wrote_into, fitted}
@@ -74,6 +74,13 @@ minute_digits s e = and_left (digits_exactly 4 s) _ (and_left (digits_exactly 4 
 pub digits_size : (n : ℕ) (s : List ℕ) → digits_exactly n s ≡ true → length s ≡ n
 unfolding digits_exactly
 digits_size n s e = eqb-true _ _ (and_left (eqb (length s) n) _ e)
+
+-- where the parts of a report lie that was opened
+pub report_parts : (report : List ℕ) (l : Layout) → accepted l ≡ report_of report
+    → (l.sender ≤ l.sender_end) × (l.sender_end ≤ length report) × (l.word ≤ l.word_end) × (l.word_end ≤ length report)
+    × (l.first ≤ l.end) × (l.end ≤ length report)
+report_parts report l e =
+    let w = opened_whole report_class report l (sym e) in (w.from, w.inside, w.word_order, w.word_within, w.order, w.within)
 
 module _ (member ours answers date time : List ℕ) where
   -- the refusals by the index are those of the lists

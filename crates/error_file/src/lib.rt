@@ -196,6 +196,7 @@ impl Texts<'_, '_> {
 }
 
 // Writes the error file: refusals 1, 5 to 11 and 15 to 19 in that order; then its length is returned, and it stands at the start of out.
+#[tactic(auto, using(crate::proofs::ErrorLaws::report_parts))]
 pub fn write(
     report: &[u8],
     answers: &[u8],

@@ -46,33 +46,6 @@ invariant_of-write_opened c =
     let free = flaw_free _ _ _ _ _ _ (sym (flaw_by a.lists.member.now a.lists.ours.now a.answers.now a.date.now a.time.now c.in_ok-l.l.records c.index.ensures c.in_ok-flaw.ensures)) in
     record { in_order = free.lists; indexed = c.index.ensures }
 
-pub slice_bounds-write_opened-count : goal.slice_bounds-write_opened-count
-slice_bounds-write_opened-count c = omega (arith, whole _ _ _ c.open_report.ensures c.in_ok-l.was)
-
-pub slice_bounds-write_opened-start : goal.slice_bounds-write_opened-start
-slice_bounds-write_opened-start c = omega (arith, whole _ _ _ c.open_report.ensures c.in_ok-l.was)
-
-pub slice_bounds-write_opened-end : goal.slice_bounds-write_opened-end
-slice_bounds-write_opened-end c = omega (arith, whole _ _ _ c.open_report.ensures c.in_ok-l.was)
-
-pub slice_bounds-write_opened-count-2 : goal.slice_bounds-write_opened-count-2
-slice_bounds-write_opened-count-2 c = omega (arith, whole _ _ _ c.open_report.ensures c.in_ok-l.was)
-
-pub slice_bounds-write_opened-start-2 : goal.slice_bounds-write_opened-start-2
-slice_bounds-write_opened-start-2 c = omega (arith, whole _ _ _ c.open_report.ensures c.in_ok-l.was)
-
-pub slice_bounds-write_opened-end-2 : goal.slice_bounds-write_opened-end-2
-slice_bounds-write_opened-end-2 c = omega (arith, whole _ _ _ c.open_report.ensures c.in_ok-l.was)
-
-pub slice_bounds-write_opened-count-3 : goal.slice_bounds-write_opened-count-3
-slice_bounds-write_opened-count-3 c = omega (arith, whole _ _ _ c.open_report.ensures c.in_ok-l.was)
-
-pub slice_bounds-write_opened-start-3 : goal.slice_bounds-write_opened-start-3
-slice_bounds-write_opened-start-3 c = omega (arith, whole _ _ _ c.open_report.ensures c.in_ok-l.was)
-
-pub slice_bounds-write_opened-end-3 : goal.slice_bounds-write_opened-end-3
-slice_bounds-write_opened-end-3 c = omega (arith, whole _ _ _ c.open_report.ensures c.in_ok-l.was)
-
 pub write_opened-requires : goal.write_opened-requires
 write_opened-requires c =
     let a = c.args in
