@@ -76,6 +76,7 @@ pub fn judge(tables: Tables, row: usize, record: &Record) -> Failures
 }
 
 // The live row that F16 names, 64 for none.
+// As it is: booking_of and booked of specs/ hold the row as a number, and original_live compares it with the count of rows.
 #[tactic(auto, unfolding(crate::specs::Booking::named_row))]
 fn named_row(c: &[u8], f16: &[u8]) -> usize
     ensures { result ≡ named_row c.now f16.now }
@@ -107,6 +108,7 @@ pub fn judge_booking(c: &[u8], f16: &[u8], f39: &[u8]) -> Booking
 }
 
 // What became of a record, by its first failure: 0 booked, 1 places 0 to 6, 2 places 7 to 60, 3 places 61 to 63.
+// As it is: the number is byte 11 of the answer record that C reads, and its one use writes it there.
 #[tactic(auto, unfolding(crate::specs::Verdict::status_at))]
 pub fn status(failed: Failures) -> u8
     ensures { result ≡ status_of failed }

@@ -105,6 +105,7 @@ fn asks_underlying(f21: &[u8]) -> bool
 }
 
 // What follows T: one of the six words, or an unlisted text.
+// As it is: a match on byte strings leaves a goal for each byte at which a word may differ, 52 of them, and they did not close.
 #[tactic(auto, using(text::proofs::SameLaws::eq_same), unfolding(crate::specs::Cases::first_theme))]
 fn theme_of(word: &[u8]) -> Underlying
     ensures { result ≡ theme_of word.now }
