@@ -4,7 +4,6 @@
 ghost use Rattle.std.specs.Prelude.{◌≡◌, ◌%◌, take};
 ghost use Rattle.io.specs.Digits.{hex_digit_ascii};
 ghost use Rattle.page.specs.Lent.{with_text};
-ghost use Rattle.page.specs.Page.{page, appended};
 ghost use Rattle.page.specs.Number.{number_text, code_text};
 
 // A page: a lent buffer, and where its text ends.
@@ -66,29 +65,4 @@ fn digit(n: u16) -> u8
     ensures { result ≡ hex_digit_ascii (n % 10) }
 {
     b'0' + (n % 10) as u8
-}
-
-// The three below go when nobody calls them any more.
-pub fn append(out: &mut [u8], at: usize, piece: &[u8]) -> usize
-    ensures { page out.new result ≡ appended (page out.old at) piece.now }
-{
-    let mut page = Page { room: out, end: at };
-    page.append(piece);
-    page.end
-}
-
-pub fn append_number(out: &mut [u8], at: usize, n: u64) -> usize
-    ensures { page out.new result ≡ appended (page out.old at) (number_text n) }
-{
-    let mut page = Page { room: out, end: at };
-    page.append_number(n);
-    page.end
-}
-
-pub fn append_code(out: &mut [u8], at: usize, code: u16) -> usize
-    ensures { page out.new result ≡ appended (page out.old at) (code_text code) }
-{
-    let mut page = Page { room: out, end: at };
-    page.append_code(code);
-    page.end
 }
