@@ -8,6 +8,7 @@ ghost use Rattle.capi.specs.Exported.{exported, record_export, judge_export, boo
 ghost use Rattle.capi.specs.Exported.{field_numbers, field_export, error_export, sum_export};
 
 // The single-record call: the answer's sixteen bytes at the start of the answer buffer.
+// As it is: the C interface; here and below only the names are exported, and what the functions do is called by Rust too, from capi.
 #[unsafe(no_mangle)]
 pub extern "C" fn roselhanda_record<'a>(
     reporters: &'a [u8],
