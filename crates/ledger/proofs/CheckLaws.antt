@@ -12,7 +12,7 @@ use lib.ListN.{length, take, drop, drop_of_length-le}
 use lib.Seq.{drop-drop}
 use Rattle.frame.specs.Every.{every}
 use Rattle.frame.specs.Parts.{part}
-use Rattle.frame.proofs.BoolLaws.{and_assoc, and_false, and_goes, and_intro, and_left, and_right, and_stops, and_true}
+use Rattle.frame.proofs.BoolLaws.{and_assoc, and_goes, and_intro, and_left, and_right, and_stops}
 use Rattle.frame.proofs.EveryLaws.{every_at, every_intro}
 use Rattle.text.specs.Class.{is_zero}
 use Rattle.text.specs.Bytes.{all}
@@ -22,13 +22,6 @@ use Rattle.ledger.specs.Row.{row_size, free, live, cancelled, cancellation, no_p
 use Rattle.ledger.specs.Sound.{Rows, rows_of, row_count, compartment_size, points_back, linked, precedes, sound_row, FormAfterSound}
 use Rattle.ledger.proofs.FormLaws.{both_ways, same_words}
 use Rattle.ledger.proofs.SoundLaws.{row_length, filled_row_lem, earlier_filled}
-
--- what code says that tests b, and a only where b holds
-pub and_comes : (a b : Bool) {r : Bool} → b ≡ true → r ≡ a → r ≡ a && b
-and_comes a b h e = rw (h, and_true) e
-
-pub and_fails : (a b : Bool) → b ≡ false → b ≡ a && b
-and_fails a b h = rw (h, and_false)
 
 -- a filled row is sound where it has the form, another number than the rows before it, and the links that its state asks
 sound_filled : (ρ : Rows) (k : ℕ) → filled_row (ρ k) ≡ true → sound_row ρ k ≡ (row_form (ρ k) && (every k (precedes ρ (number (ρ k))) && linked ρ k))

@@ -18,11 +18,8 @@ use Rattle.ledger.specs.Row.{number, number_length}
 use Rattle.ledger.specs.Sound.{Rows, row_count, compartment_size}
 use Rattle.ledger.specs.Lookup.{NoneIn, FirstFrom, is_named, first_row}
 
--- what a search from a row on knows: at its start, and after a row more that doesn't pass
+-- what a search from a row on knows after a row more that doesn't pass
 module _ (p : ℕ → Bool) (from : ℕ) where
-  pub none_yet : NoneIn p from from
-  none_yet j g h = absurd (omega arith)
-
   pub none_more : (k : ℕ) → NoneIn p from k → p k ≡ false → NoneIn p from (k + 1)
   none_more k f e j g h = go (ℕ_discrete j k)
     where
