@@ -7,11 +7,9 @@ const BASE: u64 = 65521;
 pub(crate) fn adler(s: &[u8]) -> u64 {
     let mut sum: u64 = 1;
     let mut sums: u64 = 0;
-    let mut i = 0;
-    while i < s.len() {
-        sum = (sum + text::wide(s[i])) % BASE;
+    for b in s {
+        sum = (sum + u64::from(*b)) % BASE;
         sums = (sums + sum) % BASE;
-        i += 1;
     }
     sums * 65536 + sum
 }

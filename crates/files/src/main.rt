@@ -5,9 +5,11 @@ mod case;
 mod checksum;
 mod edit;
 
+use case::Sample;
 use disk::load_or_fail;
 use std::io;
 use std::rt::Files;
+use words::before;
 
 // The bytes of the answer buffer, where a case says nothing else: as many as 1,025 answers take.
 const ANSWER_ROOM: usize = 1025 * answer::SIZE;
@@ -17,40 +19,12 @@ const CASES_ROOM: usize = 65536;
 
 // Fills a buffer with a pattern, so that a byte that is cleared or moved shows.
 fn fill(buffer: &mut [u8]) {
-    let mut i = 0;
-    while i < buffer.len() {
-        buffer[i] = (i % 251) as u8 + 1;
-        i += 1;
+    for (i, b) in buffer.iter_mut().enumerate() {
+        *b = (i % 251) as u8 + 1;
     }
 }
 
-// Runs the cases of a file, one a line.
-fn lines(
-    rt: &impl Print,
-    cases: &[u8],
-    file: &[u8],
-    reporters: &[u8],
-    currencies: &[u8],
-    ledger: &[u8],
-    answers: &[u8],
-) -> io::Result<()> {
-    let mut at = 0;
-    while at < cases.len() {
-        case::run(
-            rt,
-            words::before(text::rest(cases, at), b'\n'),
-            file,
-            reporters,
-            currencies,
-            ledger,
-            answers,
-        )?;
-        at = words::next(cases, at, b'\n');
-    }
-    Ok(())
-}
-
-// Runs the cases of the file of that name, on the sample of data/.
+// Runs the cases of the file of that name, one a line, on the sample of data/.
 fn run(rt: &(impl Files + Print + Eprint), name: &[u8]) -> io::Result<()> {
     let mut cases = [0u8; CASES_ROOM];
     let mut file = [0u8; 1024];
@@ -64,15 +38,17 @@ fn run(rt: &(impl Files + Print + Eprint), name: &[u8]) -> io::Result<()> {
     let codes = load_or_fail(rt, b"currency.ref", &mut list);
     let m = load_or_fail(rt, b"ledger.dat", &mut ledger);
     fill(&mut answers);
-    lines(
-        rt,
-        text::front(&cases, k),
-        text::front(&file, n),
-        text::front(&table, rows),
-        text::front(&list, codes),
-        text::front(&ledger, m),
-        &answers,
-    )
+    let sample = Sample {
+        file: &file[..n],
+        reporters: &table[..rows],
+        currencies: &list[..codes],
+        ledger: &ledger[..m],
+        answers: &answers,
+    };
+    for line in cases[..k].split_inclusive(|b| *b == b'\n') {
+        case::run(rt, before(line, b'\n'), sample)?;
+    }
+    Ok(())
 }
 
 // Runs all files of cases.

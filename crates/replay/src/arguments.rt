@@ -1,111 +1,81 @@
 // The sender and the record of a drawn call, as text.
-use crate::banks::BANKS;
-use crate::drawn::{Call, Flaw};
-use page::append;
+use crate::banks::{BANKS, address, code, mailbox};
+use crate::drawn::{Draw, Flaw};
+use page::Page;
 
 // The sender: the bank's mailbox, another bank's, or no name at all.
-pub(crate) fn sender_of(reporters: &[u8], call: Call) -> &[u8] {
-    let flaw = call.flaw;
-    match flaw {
-        Flaw::Sender => text::front(reporters, 0),
-        Flaw::Mailbox => crate::banks::mailbox(reporters, (call.bank % BANKS + 2) % BANKS),
-        _ => crate::banks::mailbox(reporters, call.bank),
+pub(crate) fn sender_of(reporters: &[u8], draw: Draw) -> &[u8] {
+    match draw.flaw {
+        Flaw::Sender => b"",
+        Flaw::Mailbox => mailbox(reporters, (draw.bank % BANKS + 2) % BANKS),
+        _ => mailbox(reporters, draw.bank),
     }
 }
 
 // Field 2: the bank's code or its address, or its mailbox, which is neither.
-fn reporter_of(reporters: &[u8], call: Call) -> &[u8] {
-    let flaw = call.flaw;
-    if let Flaw::Bank = flaw {
-        return crate::banks::mailbox(reporters, call.bank);
+fn reporter_of(reporters: &[u8], draw: Draw) -> &[u8] {
+    if draw.flaw == Flaw::Bank {
+        return mailbox(reporters, draw.bank);
     }
-    if call.by_address {
-        return crate::banks::address(reporters, call.bank);
+    if draw.by_address {
+        return address(reporters, draw.bank);
     }
-    crate::banks::code(reporters, call.bank)
-}
-
-// The byte for a slot of one byte: field 1, a byte of field 4, field 7. Any other byte stands for itself.
-fn byte_of(slot: u8, call: Call) -> u8 {
-    let flaw = call.flaw;
-    match slot {
-        b'k' => if call.by_address { b'S' } else { b'B' },
-        b'm' => mark_of(flaw),
-        b's' => if call.sells { b'S' } else { b'B' },
-        _ => slot,
-    }
-}
-
-// A byte of field 4, which may be an apostrophe.
-fn mark_of(flaw: Flaw) -> u8 {
-    if let Flaw::Apostrophe = flaw {
-        return b'\'';
-    }
-    b'1'
+    code(reporters, draw.bank)
 }
 
 // The last decimal digit of n, as text.
 fn digit(n: usize) -> u8 {
-    (n % 10) as u8 + 48
+    (n % 10) as u8 + b'0'
 }
 
-// Writes the last two decimal digits of n.
-fn append_digits(out: &mut [u8], at: usize, n: usize) -> usize {
-    let digits = [digit(n / 10), digit(n)];
-    append(out, at, &digits)
+// The last two decimal digits of n.
+fn digits(n: usize) -> [u8; 2] {
+    [digit(n / 10), digit(n)]
+}
+
+// Field 24: one of three codes that are listed, or one that is not.
+fn currency_of(draw: Draw) -> [u8; 3] {
+    if draw.flaw == Flaw::Currency {
+        return *b"GBP";
+    }
+    match draw.currency % 3 {
+        0 => *b"CHF",
+        1 => *b"EUR",
+        _ => *b"USD",
+    }
 }
 
 // Writes field 16.
-fn append_named(out: &mut [u8], at: usize, call: Call) -> usize {
-    if call.cancels {
-        let end = append(out, at, b"N");
-        return append_digits(out, end, call.named);
+fn append_named(page: &mut Page, draw: Draw) {
+    if draw.cancels {
+        page.append(b"N");
+        page.append(&digits(draw.named));
     }
-    at
 }
 
-// Where the code of field 24 stands among three that are listed and one that is not.
-fn currency_place(call: Call) -> usize {
-    let flaw = call.flaw;
-    if let Flaw::Currency = flaw {
-        return 9;
-    }
-    call.currency % 3 * 3
-}
-
-// Writes field 24.
-fn append_currency(out: &mut [u8], at: usize, call: Call) -> usize {
-    append(
-        out,
-        at,
-        text::front(text::rest(b"CHFEURUSDGBP", currency_place(call)), 3),
-    )
-}
-
-// Writes what a byte of the template stands for.
-fn append_slot<'a>(out: &mut [u8], at: usize, slot: u8, reporters: &'a [u8], call: Call) -> usize {
+// Writes what a byte of the template stands for: field 1, 2, a byte of field 4, which may be an apostrophe, field 7, 16, 22, 24, the digits of field
+// 39. Any other byte stands for itself.
+fn append_slot(page: &mut Page, slot: u8, reporters: &[u8], draw: Draw) {
     match slot {
-        b'r' => append(out, at, reporter_of(reporters, call)),
-        b'c' => append_named(out, at, call),
-        b'q' => append_digits(out, at, call.quantity),
-        b'e' => append_currency(out, at, call),
-        b'n' => append_digits(out, at, call.number),
-        _ => append(out, at, &[byte_of(slot, call)]),
+        b'k' => page.append(if draw.by_address { b"S" } else { b"B" }),
+        b'r' => page.append(reporter_of(reporters, draw)),
+        b'm' => page.append(if draw.flaw == Flaw::Apostrophe {
+            b"'"
+        } else {
+            b"1"
+        }),
+        b's' => page.append(if draw.sells { b"S" } else { b"B" }),
+        b'c' => append_named(page, draw),
+        b'q' => page.append(&digits(draw.quantity)),
+        b'e' => page.append(&currency_of(draw)),
+        b'n' => page.append(&digits(draw.number)),
+        _ => page.append(&[slot]),
     }
 }
 
-// Writes the record, which is the template with its small letters replaced, and answers its length.
-pub(crate) fn write_record<'a>(
-    out: &mut [u8],
-    template: &'a [u8],
-    reporters: &'a [u8],
-    call: Call,
-) -> usize {
-    let mut end = 0;
-    let mut i = 0;
-    while i < template.len() {
-        end = append_slot(out, end, template[i], reporters, call);
-        i += 1;
+// Writes the record, which is the template with its small letters replaced.
+pub(crate) fn append_record(page: &mut Page, template: &[u8], reporters: &[u8], draw: Draw) {
+    for slot in template {
+        append_slot(page, *slot, reporters, draw);
     }
-    end
 }

@@ -1,7 +1,7 @@
 // Calls that are drawn at random.
 
 // What is wrong with a call: its record fails a check, is a stranger's, or the call is refused.
-#[derive(Clone, Copy)]
+#[derive(Clone, Copy, PartialEq, Eq)]
 pub(crate) enum Flaw {
     Nothing,
     Currency,
@@ -12,7 +12,7 @@ pub(crate) enum Flaw {
 }
 
 #[derive(Clone, Copy)]
-pub(crate) struct Call {
+pub(crate) struct Draw {
     pub flaw: Flaw,
     pub bank: usize,
     pub by_address: bool,
@@ -26,10 +26,10 @@ pub(crate) struct Call {
 }
 
 // The first state of the generator.
-pub(crate) const SEED: u64 = 88172645463325252;
+const SEED: u64 = 88172645463325252;
 
 // The next state of the generator (xorshift).
-pub(crate) fn next(seed: u64) -> u64 {
+fn next(seed: u64) -> u64 {
     let a = seed ^ (seed << 13);
     let b = a ^ (a >> 7);
     b ^ (b << 17)
@@ -46,34 +46,47 @@ fn flaw_of(n: u64) -> Flaw {
     }
 }
 
-fn lesser(a: u64, b: u64) -> u64 {
-    if a < b { a } else { b }
-}
+impl Draw {
+    // The call of a state, each part from bits of its own. Banks of lower rows call more often.
+    fn of(seed: u64) -> Draw {
+        Draw {
+            flaw: flaw_of((seed >> 8) % 16),
+            bank: (seed % 16).min((seed >> 4) % 16) as usize,
+            by_address: (seed >> 58) % 4 == 0,
+            sells: (seed >> 61) % 2 == 0,
+            number: ((seed >> 12) % 80) as usize,
+            cancels: (seed >> 56) % 4 == 0,
+            named: ((seed >> 24) % 80) as usize,
+            quantity: ((seed >> 36) % 100) as usize,
+            currency: ((seed >> 48) % 3) as usize,
+        }
+    }
 
-// The call of a state, each part from bits of its own. Banks of lower rows call more often.
-pub(crate) fn call_of(seed: u64) -> Call {
-    Call {
-        flaw: flaw_of((seed >> 8) % 16),
-        bank: lesser(seed % 16, (seed >> 4) % 16) as usize,
-        by_address: (seed >> 58) % 4 == 0,
-        sells: (seed >> 61) % 2 == 0,
-        number: ((seed >> 12) % 80) as usize,
-        cancels: (seed >> 56) % 4 == 0,
-        named: ((seed >> 24) % 80) as usize,
-        quantity: ((seed >> 36) % 100) as usize,
-        currency: ((seed >> 48) % 3) as usize,
+    // Whether the record passes the sender check for a bank, in a call that is not refused.
+    pub(crate) fn passes_for(self, bank: usize) -> bool {
+        matches!(self.flaw, Flaw::Nothing | Flaw::Currency) && self.bank == bank
     }
 }
 
-// Whether a call's record passes the sender check for a bank, in a call that is not refused.
-pub(crate) fn passes_for(call: Call, bank: usize) -> bool {
-    let flaw = call.flaw;
-    match flaw {
-        Flaw::Nothing => call.bank == bank,
-        Flaw::Currency => call.bank == bank,
-        Flaw::Mailbox => false,
-        Flaw::Bank => false,
-        Flaw::Sender => false,
-        Flaw::Apostrophe => false,
+// The calls, without end: each call is drawn from the state that follows the one before.
+#[derive(Drop)]
+pub(crate) struct Draws {
+    seed: u64,
+}
+
+impl Draws {
+    // All calls, from the first on.
+    pub(crate) fn new() -> Draws {
+        Draws { seed: SEED }
+    }
+}
+
+impl Iterator for Draws {
+    type Item = Draw;
+
+    fn next(&mut self) -> Option<Draw> {
+        let drawn = Draw::of(self.seed);
+        self.seed = next(self.seed);
+        Some(drawn)
     }
 }

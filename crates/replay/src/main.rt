@@ -13,6 +13,7 @@ mod worked;
 
 use disk::load_or_fail;
 use std::io;
+use tables::Tables;
 
 // A ledger of zeros.
 fn empty_ledger() -> [u8; 32768]
@@ -28,8 +29,11 @@ fn main(rt: HostRuntime) -> io::Result<()> {
     let mut ledger = empty_ledger();
     let rows = load_or_fail(&rt, b"reporters.ref", &mut table);
     let n = load_or_fail(&rt, b"worked.txt", &mut file);
-    let reporters = text::front(&table, rows);
-    worked::run(&rt, reporters, &mut ledger, text::front(&file, n))?;
-    refused::run(&rt, reporters, &mut ledger)?;
+    let tables = Tables {
+        reporters: &table[..rows],
+        currencies: b"CHFEURUSD",
+    };
+    worked::run(&rt, tables, &mut ledger, &file[..n])?;
+    refused::run(&rt, tables, &mut ledger)?;
     list::run(&rt)
 }

@@ -1,12 +1,18 @@
 // What is printed: bytes as hexadecimal digits, and labelled numbers.
+use answer::Answer;
 use std::io;
+
+// The sixteen bytes of an answer.
+pub(crate) fn bytes_of(a: Answer) -> [u8; answer::SIZE] {
+    let mut bytes = [0u8; answer::SIZE];
+    answer::write(a, &mut bytes, 0);
+    bytes
+}
 
 // Prints two hexadecimal digits for each byte.
 pub(crate) fn print_bytes(rt: &impl Print, s: &[u8]) -> io::Result<()> {
-    let mut i = 0;
-    while i < s.len() {
-        print!(rt; "{:02x}", s[i])?;
-        i += 1;
+    for b in s {
+        print!(rt; "{b:02x}")?;
     }
     Ok(())
 }

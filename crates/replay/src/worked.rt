@@ -1,22 +1,18 @@
 // The worked records, called one by one on a ledger.
-use crate::print::{print_bytes, print_count};
+use crate::print::{bytes_of, print_bytes, print_count};
 use answer::Answer;
-use calls::Replied;
+use calls::{Call, record_call};
 use ledger::{ROW_COUNT, ROW_SIZE};
+use refusal::Refusal;
 use std::io;
+use tables::Tables;
+use words::before;
 
-// Prints the sixteen bytes of an answer.
-fn print_answer(rt: &impl Print, a: Answer) -> io::Result<()> {
-    let mut bytes = [0u8; answer::SIZE];
-    answer::write(a, &mut bytes, 0);
-    print_bytes(rt, &bytes)
-}
-
-// Prints the bytes of an answer, or the number of a refusal.
-fn print_reply(rt: &impl Print, reply: Replied) -> io::Result<()> {
+// Prints the sixteen bytes of an answer, or the number of a refusal.
+fn print_reply(rt: &impl Print, reply: Result<Answer, Refusal>) -> io::Result<()> {
     match reply {
-        Replied::Answered(a) => print_answer(rt, a)?,
-        Replied::Refused(n) => print_count(rt, b"refused ", n as u64)?,
+        Ok(a) => print_bytes(rt, &bytes_of(a))?,
+        Err(refusal) => print!(rt; "refused {}", u8::from(refusal))?,
     }
     rt.write_all(b"\n")
 }
@@ -32,52 +28,25 @@ fn print_row(rt: &impl Print, ledger: &[u8], row: usize) -> io::Result<()> {
     rt.write_all(b"\n")
 }
 
-// Calls record k, prints what it answers, and row 0 behind the first.
-fn call(
-    rt: &impl Print,
-    k: usize,
-    reporters: &[u8],
-    ledger: &mut [u8],
-    record: &[u8],
-) -> io::Result<()> {
-    print_count(rt, b"record ", k as u64)?;
-    rt.write_all(b" ")?;
-    print_reply(
-        rt,
-        calls::record_call(reporters, b"CHFEURUSD", ledger, b"MBONE", record),
-    )?;
-    if k == 1 {
-        print_row(rt, ledger, 0)?;
-    }
-    Ok(())
-}
-
-// Calls the records of a file, one a line.
-fn records(rt: &impl Print, reporters: &[u8], ledger: &mut [u8], file: &[u8]) -> io::Result<()> {
-    let mut k = 0;
-    let mut at = 0;
-    while at < file.len() {
-        k += 1;
-        call(
-            rt,
-            k,
-            reporters,
-            ledger,
-            words::before(text::rest(file, at), b'\n'),
-        )?;
-        at = words::next(file, at, b'\n');
-    }
-    Ok(())
-}
-
-// Calls the records of a file, and prints rows 0 and 1 behind the last.
+// Calls the records of a file, one a line, on a ledger: prints what each answers, row 0 behind the first, and rows 0 and 1 behind the last.
 pub(crate) fn run(
     rt: &impl Print,
-    reporters: &[u8],
+    tables: Tables,
     ledger: &mut [u8],
     file: &[u8],
 ) -> io::Result<()> {
-    records(rt, reporters, ledger, file)?;
+    for (k, line) in (1u64..).zip(file.split_inclusive(|b| *b == b'\n')) {
+        let call = Call {
+            sender: b"MBONE",
+            record: before(line, b'\n'),
+        };
+        print_count(rt, b"record ", k)?;
+        rt.write_all(b" ")?;
+        print_reply(rt, record_call(tables, ledger, call))?;
+        if k == 1 {
+            print_row(rt, ledger, 0)?;
+        }
+    }
     print_row(rt, ledger, 0)?;
     print_row(rt, ledger, 1)
 }
