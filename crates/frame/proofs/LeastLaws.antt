@@ -5,11 +5,7 @@ use native.Mathlib.Nat.{not-suc-le-zero, le_of_suc-le-suc}
 use native.Mathlib.Omega.{arith}
 use mathlib.Core.Path.{◌≡◌, refl, ap, sym, ◌∙◌}
 use mathlib.Core.Bool.{Bool, true, false, cond}
-use lib.Dec.{ltb}
-use borrow.Author.Tests.{ltb-false}
-use Rattle.std.specs.Option.{unwrap_or}
-use Rattle.std.specs.Prelude.{Some, None}
-use Rattle.frame.specs.Every.{least, within}
+use Rattle.frame.specs.Every.{least}
 
 pub least_le : (n : ℕ) (p : ℕ → Bool) → least n p ≤ n
 unfolding least
@@ -63,11 +59,3 @@ pub least_same : (n : ℕ) (p q : ℕ → Bool) → ((k : ℕ) → k < n → p k
 unfolding least
 least_same zero p q f = refl
 least_same (suc n) p q f = rw (f zero (omega arith), least_same n (λ k. p (suc k)) (λ k. q (suc k)) (λ k h. f (suc k) (omega arith)))
-
--- the least number as an Option, and the bound again where there is none
-pub least_or_end : (n : ℕ) (p : ℕ → Bool) → unwrap_or (within n (least n p)) n ≡ least n p
-least_or_end n p = go (ltb (least n p) n) refl
-  where
-    go : (t : Bool) → ltb (least n p) n ≡ t → unwrap_or (cond t (Some (least n p)) None) n ≡ least n p
-    go true e = refl
-    go false e = omega (arith, ltb-false _ _ e, least_le n p)

@@ -9,12 +9,11 @@ use borrow.Author.Tests.{lt-ltb, ltb-true, eqb-false, not-true}
 use lib.Dec.{ltb, eqb}
 use lib.ListN.{length, get_or, length-take, length-drop}
 use Rattle.std.specs.List.{position}
-use Rattle.std.specs.Option.{unwrap_or}
 use Rattle.frame.specs.Every.{within, least}
 use Rattle.frame.specs.Parts.{AreParts}
 use Rattle.frame.proofs.BoolLaws.{and_left, and_right}
 use Rattle.frame.proofs.EveryLaws.{every_at}
-use Rattle.frame.proofs.LeastLaws.{least_hit, least_is, least_or_end}
+use Rattle.frame.proofs.LeastLaws.{least_hit, least_is}
 use Rattle.frame.proofs.ListLaws.{position_least}
 use Rattle.frame.proofs.PartLaws.{part_length}
 use Rattle.text.specs.Bytes.{same}
@@ -60,15 +59,6 @@ row_code_found t f h = least_hit (reporter_count t) (has_code t f) h
 pub row_address_found : (t f : List ℕ) → row_by_address t f < reporter_count t → has_address t f (row_by_address t f) ≡ true
 unfolding row_by_address
 row_address_found t f h = least_hit (reporter_count t) (has_address t f) h
-
--- the row as it is handed out, and the count of rows again where none is found
-pub code_or_end : (t f : List ℕ) → unwrap_or (within (reporter_count t) (row_by_code t f)) (reporter_count t) ≡ row_by_code t f
-unfolding row_by_code
-code_or_end t f = least_or_end (reporter_count t) (has_code t f)
-
-pub address_or_end : (t f : List ℕ) → unwrap_or (within (reporter_count t) (row_by_address t f)) (reporter_count t) ≡ row_by_address t f
-unfolding row_by_address
-address_or_end t f = least_or_end (reporter_count t) (has_address t f)
 
 pub rows_below : (t : List ℕ) → reporters_ok t ≡ true → reporter_count t ≤ reporter_limit
 unfolding reporters_ok
