@@ -2,12 +2,14 @@
 // directory, as errors.edi; then prints its length. Its two arguments are the date and the time that it bears.
 #![tactic(auto)]
 
-ghost use Rattle.io.specs.Counts.{IsPrefixLen};
+ghost use Rattle.std.specs.Prelude.{◌≡◌, length};
 
-use disk::{Loaded, Reason};
-use error_file::Wrote;
-use std::env::{Env, FillError};
+use console::{argument, print};
+use disk::{load_or_complain, save_or_complain};
+use page::Page;
+use std::io;
 use std::rt::Files;
+use texts::Lists;
 
 // Room for a report, for the answers to 1,024 records, and for 10,000 rows of texts, each with a byte more, so that what is too long is refused, and
 // never cut.
@@ -22,101 +24,86 @@ const ERRORS_ROOM: usize = 117875;
 
 const PAGE_ROOM: usize = 32;
 
-// Reads a file, and complains where it cannot be read.
-fn load(rt: &(impl Files + Eprint), path: &[u8], buffer: &mut [u8]) -> Loaded
-    ensures { IsPrefixLen result.bytes buffer.new }
+// What is said first where a file cannot be read or saved.
+const UNDONE: &[u8] = b"no error file was written: ";
+
+// What an error file is written from.
+#[derive(Clone, Copy)]
+struct Sources<'a> {
+    report: &'a [u8],
+    answers: &'a [u8],
+    member: &'a [u8],
+    ours: &'a [u8],
+}
+
+// Room for a list of texts.
+fn texts_room() -> [u8; TEXTS_ROOM]
+    ensures { 800001 ≡ length result }
 {
-    disk::load_or_complain(rt, path, buffer, b"no error file was written: ")
-}
-
-// Saves the file, and complains where it cannot be saved.
-fn save(rt: &(impl Files + Eprint), file: &[u8]) -> bool {
-    let saved = disk::save_or_complain(
-        rt,
-        file,
-        b"errors.tmp",
-        b"errors.edi",
-        b"no error file was written: ",
-    );
-    saved.named
-}
-
-// Prints a text, and says so where it cannot be printed.
-fn print(rt: &(impl Print + Eprint), text: &[u8]) {
-    if let Err(why) = rt.write_all(text) {
-        let _ = eprintln!(rt; "standard output: {}", Reason { error: why });
-    }
+    [0u8; TEXTS_ROOM]
 }
 
 // Writes the file and saves it. It is saved before a line claims that it was written.
 fn run(
     rt: &(impl Files + Print + Eprint),
-    report: &[u8],
-    answers: &[u8],
-    member: &[u8],
-    ours: &[u8],
+    from: Sources,
     date: &[u8],
     time: &[u8],
-) {
+) -> io::Result<()> {
     let mut file = [0u8; ERRORS_ROOM];
-    let mut page = [0u8; PAGE_ROOM];
-    match error_file::write(report, answers, member, ours, date, time, &mut file) {
-        Wrote::Refused(n) => {
-            let end = results::refused(&mut page, n);
-            print(rt, text::front(&page, end));
+    let mut room = [0u8; PAGE_ROOM];
+    let mut page = Page {
+        room: &mut room,
+        end: 0,
+    };
+    let lists = Lists {
+        member: from.member,
+        ours: from.ours,
+    };
+    match error_file::write(from.report, from.answers, lists, date, time, &mut file) {
+        Ok(n) => {
+            let written = text::front(&file, n);
+            save_or_complain(rt, written, b"errors.tmp", b"errors.edi", UNDONE).named?;
+            results::written(&mut page, n as u64);
         }
-        Wrote::Length(n) => {
-            if save(rt, text::front(&file, n)) {
-                let end = results::written(&mut page, n as u64);
-                print(rt, text::front(&page, end));
-            }
-        }
+        Err(refusal) => results::refused(&mut page, u8::from(refusal)),
     }
+    print(rt, &mut io::writer(rt), page.text())
 }
 
-// Reads the four files, and writes the error file of a date and a time where all of them could be read.
+// Reads the four files, and writes the error file of a date and a time where all of them could be read. What fails is said where it fails.
 fn read_and_run(rt: &(impl Files + Print + Eprint), date: &[u8], time: &[u8]) {
     let mut file = [0u8; REPORT_ROOM];
     let mut answers = [0u8; ANSWERS_ROOM];
-    let mut member = [0u8; TEXTS_ROOM];
-    let mut ours = [0u8; TEXTS_ROOM];
-    let report = load(rt, b"report.edi", &mut file);
-    let answered = load(rt, b"answers.dat", &mut answers);
-    let theirs = load(rt, b"member.txt", &mut member);
-    let known = load(rt, b"texts.ref", &mut ours);
-    if report.readable & answered.readable & theirs.readable & known.readable {
-        run(
-            rt,
-            text::front(&file, report.bytes),
-            text::front(&answers, answered.bytes),
-            text::front(&member, theirs.bytes),
-            text::front(&ours, known.bytes),
-            date,
-            time,
-        );
-    }
-}
-
-// Whether there is an argument of that number; the program's own name is number 0.
-fn is_given(rt: &impl Env, i: usize) -> bool {
-    let mut start = [0u8; 1];
-    match rt.arg(i, &mut start) {
-        Err(FillError::NotPresent) => false,
-        _ => true,
+    let mut member = texts_room();
+    let mut ours = texts_room();
+    let report = load_or_complain(rt, b"report.edi", &mut file, UNDONE);
+    let answered = load_or_complain(rt, b"answers.dat", &mut answers, UNDONE);
+    let theirs = load_or_complain(rt, b"member.txt", &mut member, UNDONE);
+    let known = load_or_complain(rt, b"texts.ref", &mut ours, UNDONE);
+    if let (Ok(report), Ok(answered), Ok(theirs), Ok(known)) = (report, answered, theirs, known) {
+        let from = Sources {
+            report: &file[..report],
+            answers: &answers[..answered],
+            member: &member[..theirs],
+            ours: &ours[..known],
+        };
+        let _ = run(rt, from, date, time);
     }
 }
 
 // Takes the date and the time from its arguments. One that is longer than a date or a time is taken for an empty one, and so refused as it has to be.
 fn main(rt: HostRuntime) {
-    if !is_given(&rt, 2) | is_given(&rt, 3) {
+    let mut date = [0u8; 8];
+    let mut time = [0u8; 4];
+    let first = argument(&rt, 1, &mut date);
+    let second = argument(&rt, 2, &mut time);
+    let third = argument(&rt, 3, &mut [0u8; 1]);
+    let (Some(day), Some(minute), None) = (first, second, third) else {
         let _ = eprintln!(rt;
             "no error file was written: say its date and its time, errors YYYYMMDD HHMM"
         );
         return;
-    }
-    let mut date = [0u8; 8];
-    let mut time = [0u8; 4];
-    let day = rt.arg(1, &mut date).unwrap_or(0);
-    let minute = rt.arg(2, &mut time).unwrap_or(0);
-    read_and_run(&rt, text::front(&date, day), text::front(&time, minute));
+    };
+    read_and_run(&rt, &date[..day], &time[..minute]);
 }
