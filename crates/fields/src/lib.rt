@@ -35,8 +35,9 @@ fn extend(stops: &mut [usize; 39], found: usize, w: &[u8], at: usize) -> usize
     count
 }
 
-// Makes the index of a record with 38 semicolons, in one pass, and says whether it has so many, as none of fewer bytes has. It goes block by block: a loop over a count that is
-// known is compiled to straight steps.
+// Makes the index of a record with 38 semicolons, in one pass, and says whether it has so many, as none of fewer bytes has. It goes block by block: a
+// loop over a count that is known is compiled to straight steps. Never inlined: its callers would then grow too large to be inlined themselves.
+#[inline(never)]
 fn fill(stops: &mut [usize; 39], record: &[u8]) -> bool
     requires { length stops.old ≡ 39 }
     ensures { (result ≡ is_whole «record».now) × (result ≡ true → stops.new ≡ stops_of «record».now) }
@@ -99,7 +100,9 @@ pub struct Record<'a> {
 }
 
 impl<'a> Record<'a> {
-    // The record of these bytes, looked over once; all of its index is 0 without 38 semicolons, as with fewer bytes.
+    // The record of these bytes, looked over once; all of its index is 0 without 38 semicolons, as with fewer bytes. Always inlined, so that the index is
+    // not copied from function to function.
+    #[inline(always)]
     pub fn of(bytes: &'a [u8]) -> Record<'a>
         ensures lent { result.bytes ≡ bytes.entry }
         ensures index { result.stops ≡ stops_of bytes.now }
