@@ -5,15 +5,16 @@ use native.Mathlib.Omega.{arith}
 use mathlib.Core.Bool.{Bool, true, false, ◌&&◌, ◌||◌, not, false≢true}
 use mathlib.Core.List.{List, []}
 use mathlib.Core.Path.{◌≡◌, refl, sym, ◌∙◌}
-use borrow.Author.Tests.{lt-ltb, ltb-true, eqb-false, not-true}
+use borrow.Author.Tests.{lt-ltb, le-ltb, ltb-true, eqb-false, not-true}
 use lib.Dec.{ltb, eqb}
 use lib.ListN.{length, get_or, length-take, length-drop}
+use Rattle.std.specs.Prelude.{None}
 use Rattle.std.specs.List.{position}
 use Rattle.frame.specs.Every.{within, least}
 use Rattle.frame.specs.Parts.{AreParts}
 use Rattle.frame.proofs.BoolLaws.{and_left, and_right}
 use Rattle.frame.proofs.EveryLaws.{every_at}
-use Rattle.frame.proofs.LeastLaws.{least_hit, least_is}
+use Rattle.frame.proofs.LeastLaws.{least_hit, least_is, least_none}
 use Rattle.frame.proofs.ListLaws.{position_least}
 use Rattle.frame.proofs.PartLaws.{part_length}
 use Rattle.text.specs.Bytes.{same}
@@ -50,6 +51,20 @@ module _ (t f : List ℕ) (part : List ℕ → List ℕ) (test : List ℕ → Li
       let same : (k : ℕ) → k < length rows → passes k ≡ test (part (get_or rows k [])) f =
       λ k h. let inside : k < reporter_count t = omega arith in rw (lt-ltb _ _ inside, cut.each k [] h) refl in
       rw (position_least (λ w. test (part w) f) rows [] passes same, cut.count) refl
+
+-- the bank code of a whole row has five bytes, so that none is a text of another length
+code_length : (t : List ℕ) (k : ℕ) → k < reporter_count t → length (code_of (reporter_at t k)) ≡ 5
+code_length t k h =
+    let row : length (reporter_at t k) ≡ reporter_size = part_length reporter_size k t (omega arith) in
+    rw (length-take, row) refl
+
+pub row_code_absent : (t f : List ℕ) → (length f ≡ 5 → ⊥) → within (reporter_count t) (row_by_code t f) ≡ None
+unfolding row_by_code has_code
+row_code_absent t f short =
+    let count = reporter_count t in
+    let absent : (k : ℕ) → k < count → has_code t f k ≡ false =
+    λ k h. rw (lt-ltb _ _ h) (sym (same_apart length _ _ (λ e. short (sym e ∙ code_length t k h)))) in
+    rw (least_none count (has_code t f) absent, le-ltb count count (omega arith)) refl
 
 -- a row that is found has what was looked up
 pub row_code_found : (t f : List ℕ) → row_by_code t f < reporter_count t → has_code t f (row_by_code t f) ≡ true

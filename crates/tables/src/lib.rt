@@ -57,11 +57,11 @@ fn rows(t: &[u8]) -> &[Row]
     parts(t)
 }
 
-// The bank code of a row.
-fn code_of(w: &Row) -> &[u8]
+// The bank code of a row: its length is known, so that two are compared in a step or two.
+fn code_of(w: &Row) -> &[u8; 5]
     ensures { result.now ≡ code_of w.now }
 {
-    &w[..5]
+    w.first_chunk().unwrap()
 }
 
 // The SWIFT address of a row.
@@ -165,7 +165,7 @@ pub fn reporters_ok(t: &[u8]) -> bool
 pub fn has_code(t: &[u8], f: &[u8], k: usize) -> bool
     ensures { result ≡ has_code t.now f.now k }
 {
-    rows(t).get(k).is_some_and(|w| code_of(w) == f)
+    rows(t).get(k).is_some_and(|w| &code_of(w)[..] == f)
 }
 
 // Whether row k has the address f, which may lack the XXX at its end.
@@ -190,7 +190,8 @@ pub fn has_mailbox(t: &[u8], f: &[u8], k: usize) -> bool
 pub fn row_by_code(t: &[u8], f: &[u8]) -> Option<usize>
     ensures { result ≡ within (reporter_count t.now) (row_by_code t.now f.now) }
 {
-    rows(t).iter().position(|w| code_of(w) == f)
+    let code = f.as_array()?;
+    rows(t).iter().position(|w| code_of(w) == code)
 }
 
 // The first row with the address f.
