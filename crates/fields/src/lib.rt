@@ -35,16 +35,13 @@ fn extend(stops: &mut [usize; 39], found: usize, w: &[u8], at: usize) -> usize
     count
 }
 
-// Makes the index of a record with 38 semicolons, in one pass, and says whether it has so many, as none of fewer bytes has. It goes block by block: a
+// Makes the index of a record with 38 semicolons, in one pass, and says whether it has so many. It goes block by block: a
 // loop over a count that is known is compiled to straight steps. Never inlined: its callers would then grow too large to be inlined themselves.
 #[inline(never)]
 fn fill(stops: &mut [usize; 39], record: &[u8]) -> bool
     requires { length stops.old ≡ 39 }
     ensures { (result ≡ is_whole «record».now) × (result ≡ true → stops.new ≡ stops_of «record».now) }
 {
-    if record.len() < 38 {
-        return false;
-    }
     let (blocks, rest) = record.as_chunks::<BLOCK_SIZE>();
     let mut found: usize = 0;
     for (k, block) in blocks.iter().enumerate() {
@@ -107,11 +104,16 @@ impl<'a> Record<'a> {
         ensures lent { result.bytes ≡ bytes.entry }
         ensures index { result.stops ≡ stops_of bytes.now }
     {
-        let mut stops = [0; 39];
-        if !fill(&mut stops, bytes) {
-            stops = [0; 39];
+        let none = [0; 39];
+        if bytes.len() < 38 {
+            return Record { bytes, stops: none };
         }
-        Record { bytes, stops }
+        let mut stops = none;
+        if fill(&mut stops, bytes) {
+            Record { bytes, stops }
+        } else {
+            Record { bytes, stops: none }
+        }
     }
 
     // Whether it has 38 semicolons, by its index.

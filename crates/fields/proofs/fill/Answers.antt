@@ -4,11 +4,8 @@ use mathlib.Core.Bool.{false≢true}
 use mathlib.Core.Path.{◌≡◌, refl}
 use lib.ListN.{length}
 use native.Mathlib.Omega.{arith}
-use Rattle.fields.proofs.FieldLaws.{index_short, block_rest, last_rest, index_go, index_over, index_other, index_full}
+use Rattle.fields.proofs.FieldLaws.{block_rest, last_rest, index_go, index_over, index_other, index_full}
 use Rattle.fields.proofs.fill.Goals as goal
-
-pub returns-then-record-lt38 : goal.returns-then-record-lt38
-returns-then-record-lt38 c = (index_short c.args.«record».now (omega arith), λ t. absurd (false≢true t))
 
 pub returns-then-found-gt38 : goal.returns-then-found-gt38
 returns-then-found-gt38 c =

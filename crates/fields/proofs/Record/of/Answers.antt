@@ -1,11 +1,13 @@
+use native.Mathlib.Omega.{arith}
 use mathlib.Core.Path.{sym, ◌∙◌}
-use Rattle.fields.proofs.FieldLaws.{stops_broken}
+use Rattle.fields.proofs.FieldLaws.{index_short, stops_broken}
 use Rattle.fields.proofs.Record.of.Goals as goal
-use Rattle.fields.proofs.Record.of.Goals.{then-not-fill, else-not-fill}
 
-pub returns-clause-index : goal.returns-clause-index
-returns-clause-index c =
-    elim c.if-not-fill.branch [
-      | then-not-fill w ↦ w.stops-is ∙ sym (stops_broken _ (sym c.fill.ensures.0 ∙ w.if-not-fill.true))
-      | else-not-fill w ↦ w.stops-is ∙ c.fill.ensures.1 w.if-not-fill.false
-    ]
+pub returns-then-bytes-lt38-clause-index : goal.returns-then-bytes-lt38-clause-index
+returns-then-bytes-lt38-clause-index c = sym (stops_broken _ (sym (index_short c.args.bytes.now (omega arith))))
+
+pub returns-then-fill-clause-index : goal.returns-then-fill-clause-index
+returns-then-fill-clause-index c = c.fill.ensures.1 c.if-fill.true
+
+pub returns-else-fill-clause-index : goal.returns-else-fill-clause-index
+returns-else-fill-clause-index c = sym (stops_broken _ (sym c.fill.ensures.0 ∙ c.if-fill.false))
