@@ -94,7 +94,8 @@ pub(crate) fn settle(ledger: &mut [u8], foreseen: Foreseen, record: &[u8])
     }
 }
 
-// A call that is not refused: judged and booked, the two in a row.
+// A call that is not refused: judged and booked, the two in a row. Always inlined: in a file of short records the call itself is a good part of one.
+#[inline(always)]
 pub(crate) fn admitted(tables: Tables, ledger: &mut [u8], call: Call) -> Answer
     requires { refusal_of (lent tables) (sent call) (ledger_flaw ledger.old) ≡ 0 }
     ensures { outcome (Ok result) ledger.new ≡ single (rules (lent tables.entry)) (sent call.entry) ledger.old }
