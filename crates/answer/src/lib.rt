@@ -13,6 +13,7 @@ pub const SIZE: usize = 16;
 pub const NO_REPORTER: u8 = 255;
 
 // The status of a record that is booked.
+// As it is: both are bytes of the answer record that C reads, and one that is lent holds any byte.
 pub const BOOKED: u8 = 0;
 
 // What a call answers to a record.

@@ -11,6 +11,7 @@ ghost use Rattle.identifier.specs.Isin.{letter_value, value_weight, letter_sum};
 use text::Class;
 
 // Whether s is a bank code.
+// As it is: one line over text::all, as calendar's and decimal's digits, names and trade's venue are; each has a length and a class of its own.
 #[tactic(auto, unfolding(crate::specs::Identifier::bank_code))]
 pub fn is_bank_code(s: &[u8]) -> bool
     ensures { result ≡ bank_code s.now }

@@ -41,6 +41,7 @@ pub trait Word: Copy {
         ensures { s.new ≡ number_put SIZE 0 (number self) s.old };
 }
 
+// As it is: two methods for each width, since each calls its own type's functions, and an impl that a macro writes is refused.
 impl Word for u16 {
     ghost SIZE = { 2 };
 

@@ -68,6 +68,7 @@ fn hex_byte(hex: &[u8]) -> u8
 pub fn append_hex(page: &mut Page, hex: &[u8])
     ensures { page.new ≡ with_text page.old (bytes_of hex.now) }
 {
+    // As it is: the wrong build digit_by_digit, where bytes overlap, has no place in a loop over pairs.
     let mut left = hex;
     while let [_, _, behind @ ..] = left {
         page.append(&[hex_byte(left)]);
