@@ -170,7 +170,8 @@ impl Texts<'_, '_> {
         out: &mut [u8],
     ) -> Result<usize, Refusal>
         requires { Lined answers.now body.now 0 0
-            × (digits_exactly 8 date.now ≡ true) × (digits_exactly 4 time.now ≡ true) × (length sender.now ≤ file_limit) × (length word.now ≤ file_limit) }
+            × (digits_exactly 8 date.now ≡ true) × (digits_exactly 4 time.now ≡ true)
+            × (length sender.now ≤ file_limit) × (length word.now ≤ file_limit) }
         ensures { write_outcome (wrote_as result) out.new ≡ wrote_into out.old
             (fitted (length out.old)
             (error_text self.now.index.lists.member.now self.now.index.lists.ours.now answers.now date.now time.now sender.now

@@ -6,6 +6,7 @@ use mathlib.Core.List.{List}
 use mathlib.Core.Path.{◌≡◌, ◌∙◌}
 use Rattle.answer.specs.declared.Answer.{Answer}
 use Rattle.answer.specs.Answer.{answer_size, answer_at}
+use Rattle.frame.proofs.EveryLaws.{many_none, many_more, many_same, many_most}
 use Rattle.page.specs.declared.Page.{Page}
 use Rattle.page.specs.Lent.{with_text}
 use Rattle.page.proofs.LentLaws.{with_both}
@@ -17,3 +18,6 @@ pub lines_more : (p : Page) (answers : List ℕ) (k : ℕ) {q r : Page} {a : Ans
 unfolding lines_text
 lines_more p answers k e g f =
     f ∙ rw (e, g, add-one k) (with_both p (lines_text k answers) (line_text (suc k) (answer_at (k * answer_size) answers)))
+
+-- how many are booked, record by record
+pub ruleset counting_laws = (many_none, many_more, many_same, many_most)

@@ -1,5 +1,5 @@
 // The lines that tell of a file call, its refusal or what became of each record, of an error file, and of records that are judged without booking.
-#![tactic(auto, using(page::proofs::LentLaws::with_both, std::proofs::Common::append_assoc), unfolding(crate::specs::Results::row_text, crate::specs::Results::line_text, crate::specs::Results::accepted_text, crate::specs::Results::refused_text, crate::specs::Results::written_text, crate::specs::Results::refused_line_text, crate::specs::Results::would_book_text))]
+#![tactic(auto)]
 
 ghost use Rattle.std.specs.Prelude.{◌≡◌, ◌++◌};
 ghost use Rattle.page.specs.Lent.{with_text};
@@ -11,6 +11,7 @@ use answer::{Answer, BOOKED, NO_REPORTER};
 use page::Page;
 
 // Writes a reporter's row, or - for none.
+#[tactic(auto, using(page::proofs::LentLaws::with_both, std::proofs::Common::append_assoc), unfolding(crate::specs::Results::row_text))]
 fn append_row(page: &mut Page, row: u8)
     ensures { page.new ≡ with_text page.old (row_text row) }
 {
@@ -22,6 +23,7 @@ fn append_row(page: &mut Page, row: u8)
 }
 
 // Writes the line of a record: its number, its first code, its count of failures, its reporter's row.
+#[tactic(auto, using(page::proofs::LentLaws::with_both, std::proofs::Common::append_assoc), unfolding(crate::specs::Results::line_text))]
 pub fn append_line(page: &mut Page, number: u64, a: Answer)
     ensures { page.new ≡ with_text page.old (line_text number a) }
 {
@@ -46,7 +48,7 @@ fn append_lines(page: &mut Page, answers: &[u8], n: usize)
 }
 
 // How many of n records are booked.
-#[tactic(auto, using(frame::proofs::EveryLaws::many_none, frame::proofs::EveryLaws::many_more, frame::proofs::EveryLaws::many_same, frame::proofs::EveryLaws::many_most), unfolding(crate::specs::Results::booked_count))]
+#[tactic(auto, using(crate::proofs::ResultLaws::counting_laws), unfolding(crate::specs::Results::booked_count))]
 fn booked(answers: &[u8], n: usize) -> u64
     ensures { result ≡ booked_count n answers.now }
 {
@@ -60,6 +62,7 @@ fn booked(answers: &[u8], n: usize) -> u64
 }
 
 // Writes a line of a label and a number.
+#[tactic(auto, using(page::proofs::LentLaws::with_both, std::proofs::Common::append_assoc))]
 fn append_labelled(page: &mut Page, label: &[u8], n: u64)
     ensures { page.new ≡ with_text page.old (label.now ++ number_text n ++ line_feed) }
 {
@@ -69,6 +72,7 @@ fn append_labelled(page: &mut Page, label: &[u8], n: u64)
 }
 
 // Writes what is printed of a file call that is accepted, with n records.
+#[tactic(auto, using(page::proofs::LentLaws::with_both, std::proofs::Common::append_assoc), unfolding(crate::specs::Results::accepted_text))]
 pub fn accepted(page: &mut Page, answers: &[u8], n: usize)
     ensures { page.new ≡ with_text page.old (accepted_text n answers.now) }
 {
@@ -78,6 +82,7 @@ pub fn accepted(page: &mut Page, answers: &[u8], n: usize)
 }
 
 // Writes what is printed of a call that is refused.
+#[tactic(auto, using(page::proofs::LentLaws::with_both, std::proofs::Common::append_assoc), unfolding(crate::specs::Results::refused_text))]
 pub fn refused(page: &mut Page, n: u8)
     ensures { page.new ≡ with_text page.old (refused_text n) }
 {
@@ -85,6 +90,7 @@ pub fn refused(page: &mut Page, n: u8)
 }
 
 // Writes what is printed of an error file that is written, of so many bytes.
+#[tactic(auto, using(page::proofs::LentLaws::with_both, std::proofs::Common::append_assoc), unfolding(crate::specs::Results::written_text))]
 pub fn written(page: &mut Page, n: u64)
     ensures { page.new ≡ with_text page.old (written_text n) }
 {
@@ -92,6 +98,7 @@ pub fn written(page: &mut Page, n: u64)
 }
 
 // Writes the line of a record that is refused: its number, and the number of its refusal.
+#[tactic(auto, using(page::proofs::LentLaws::with_both, std::proofs::Common::append_assoc), unfolding(crate::specs::Results::refused_line_text))]
 pub fn append_refused_line(page: &mut Page, number: u64, refusal: u8)
     ensures { page.new ≡ with_text page.old (refused_line_text number refusal) }
 {
@@ -100,6 +107,7 @@ pub fn append_refused_line(page: &mut Page, number: u64, refusal: u8)
 }
 
 // Writes what is printed last of records that are judged without booking: how many would be booked.
+#[tactic(auto, using(page::proofs::LentLaws::with_both, std::proofs::Common::append_assoc), unfolding(crate::specs::Results::would_book_text))]
 pub fn would_book(page: &mut Page, count: u64)
     ensures { page.new ≡ with_text page.old (would_book_text count) }
 {

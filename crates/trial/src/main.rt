@@ -2,7 +2,7 @@
 // by reporters.ref and currency.ref, all in the working directory. Prints what would become of each, then how many would be booked. Writes no file.
 #![tactic(auto)]
 
-ghost use Rattle.std.specs.Prelude.{◌≤◌, IfOk};
+ghost use Rattle.std.specs.Prelude.{◌+◌, ◌<◌, ◌≡◌, ◌≤◌, IfOk};
 ghost use Rattle.io.specs.Counts.{IsPrefixLen};
 
 use answer::{Answer, BOOKED};
@@ -66,7 +66,9 @@ impl Progress {
     }
 
     // With a record more, whose line has been read to its end. No run reads so many that a count would stop.
-    fn counted(self, books: bool) -> Progress {
+    fn counted(self, books: bool) -> Progress
+        ensures { self.number < 18446744073709551615 → result.number ≡ self.number + 1 }
+    {
         Progress {
             bytes: 0,
             number: self.number.saturating_add(1),

@@ -88,3 +88,6 @@ repeated_more n t = rw (add-one n) (go n)
     go : (n : ℕ) → repeated n t ++ t ≡ t ++ repeated n t
     go zero = sym (append-nil t)
     go (suc n) = rw append_assoc (ap (λ (x : List ℕ). t ++ x) (go n))
+
+-- a piece once more
+pub ruleset times_laws = (with_both, with_nothing, repeated_more)

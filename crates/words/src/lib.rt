@@ -26,6 +26,7 @@ pub fn behind(s: &[u8], b: u8) -> &[u8]
 }
 
 // The place behind the first byte b from a place on; the end of s where there is none.
+// As it is: the programs split their lines by the library's iterator now; the wrong builds next_from_start, next_space stand on it.
 #[tactic(auto, using(crate::proofs::LineLaws::behind_within), unfolding(crate::specs::Words::next_place))]
 pub fn next(s: &[u8], at: usize, b: u8) -> usize
     ensures { result ≡ next_place b at s.now }
@@ -88,7 +89,7 @@ fn append_piece(page: &mut Page, piece: &[u8])
 }
 
 // Writes the bytes that a piece stands for so many times.
-#[tactic(auto, using(page::proofs::LentLaws::with_both, page::proofs::LentLaws::with_nothing, crate::proofs::LineLaws::repeated_more), unfolding(crate::specs::Words::repeated))]
+#[tactic(auto, using(crate::proofs::LineLaws::times_laws), unfolding(crate::specs::Words::repeated))]
 pub fn append_times(page: &mut Page, times: usize, piece: &[u8])
     ensures { page.new ≡ with_text page.old (repeated times (piece_bytes piece.now)) }
 {
