@@ -47,6 +47,8 @@ fn relink(w: &mut [u8], state: State, p: usize)
 }
 
 // Enters a new live row in row f.
+// As it is: the length is asked here and in the two below, and tested once, in can_book; `as_mut_array` hands out a part of which `book`, whose clause
+// names the whole, would have to say what became of it, no plainer.
 fn enter(c: &mut [u8], f: usize, n: &[u8], q: u64, s: u8)
     requires { (length c.old ≡ compartment_size) × (f < row_count) × (length n.now ≤ number_room) }
     ensures { c.new ≡ entered f n.now q s c.old }

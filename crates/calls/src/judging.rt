@@ -30,7 +30,7 @@ pub struct Formal {
 }
 
 // What a booking enters and cancels: where the record's number lies, its quantity and its side, and the live row that it names, 64 for none.
-// As it is: 64 for none is what named_row finds and booked takes, definitions under the theorems.
+// As it is: 64 for none is what named_row finds and booked takes; an Option would be made here only to be taken apart there.
 #[derive(Clone, Copy)]
 pub(crate) struct Entry {
     pub number: Place,

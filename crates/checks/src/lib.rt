@@ -76,7 +76,7 @@ pub fn judge(tables: Tables, row: usize, record: &Record) -> Failures
 }
 
 // The live row that F16 names, 64 for none.
-// As it is: booking_of and booked of specs/ hold the row as a number, and original_live compares it with the count of rows.
+// As it is: 64 for none, as ledger gives it and booking takes it; an Option would be made here only to be taken apart there.
 #[tactic(auto, unfolding(crate::specs::Booking::named_row))]
 fn named_row(c: &[u8], f16: &[u8]) -> usize
     ensures { result ≡ named_row c.now f16.now }

@@ -40,7 +40,7 @@ const POWERS: [u64; 20] = [
 ];
 
 // 10 to the n-th power.
-// As it is: `10u64.pow(..)` takes some 7 instructions more for each decimal of a record, by callgrind.
+// As it is: `10u64.pow(..)` takes some 7 instructions more for each decimal of a record, by callgrind; row file-250-empty is over its bar already.
 fn power(n: usize) -> u64
     requires { n ≤ 19 }
     ensures { result ≡ 10 ^ n }

@@ -22,6 +22,7 @@ pub struct Unread {
 }
 
 // What became of a save: of the writing of all bytes, and of their taking the name, which fails for the same reason where the writing failed.
+// As it is: in one result "named, though not all was written" could not be said, and the wrong builds named_as_written and its like had no place.
 #[derive(Clone, Copy)]
 pub struct Saved {
     pub written: io::Result<()>,
@@ -75,7 +76,7 @@ fn read_open(file: &mut impl Read, buffer: &mut [u8]) -> Result<usize, Unread>
     ensures { IsPrefixLen (filled result) buffer.new }
 {
     let mut bytes = 0;
-    // As it is: each read goes on where the one before it ended, wherever that was, and no iterator gives such steps.
+    // As it is: each read goes on where the one before it ended, and may fail; a closure that reads into what is left would be no plainer.
     while bytes < buffer.len() {
         match file.read(&mut buffer[bytes..]) {
             Ok(0) => break,

@@ -151,7 +151,7 @@ fn count_lines(s: &[u8], first: usize) -> Option<Span>
 {
     let mut p = first;
     let mut n: usize = 0;
-    // As it is: the place goes from line to line, each as long as it is, and no iterator of the library does that.
+    // As it is: the place goes from line to line; by `iter::successors` each turn's fact would stand in a closure's clause and in the run's, no plainer.
     while p < s.len() {
         if s[p] == b'\'' {
             return Some(Span {

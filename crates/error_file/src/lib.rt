@@ -116,7 +116,7 @@ impl Texts<'_, '_> {
         let mut size: usize = 0;
         let mut at: usize = 0;
         let mut k: usize = 0;
-        // As it is: the place goes from line to line, as below; a walk with a closure that counts or writes would have to say what the closure changes.
+        // As it is: the place goes from line to line, here and in append_pieces; a walk with a closure that counts or writes would have to say what the closure changes.
         while let Some(next) = envelope::line_end(body, at) {
             size += self.piece_size(code_in(answers, k), &body[at..next]);
             at = next;
@@ -151,6 +151,7 @@ impl Texts<'_, '_> {
     {
         let mut at: usize = 0;
         let mut k: usize = 0;
+        // As it is: as in pieces_size.
         while let Some(next) = envelope::line_end(body, at) {
             self.append_piece(page, code_in(answers, k), &body[at..next]);
             at = next;

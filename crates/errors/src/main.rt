@@ -36,7 +36,7 @@ struct Sources<'a> {
     ours: &'a [u8],
 }
 
-// Room for a list of texts.
+// Room for a list of texts. It has a function of its own, whose clause says the length: a proof that meets so long a list computes it else.
 fn texts_room() -> [u8; TEXTS_ROOM]
     ensures { 800001 ≡ length result }
 {

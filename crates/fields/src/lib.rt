@@ -18,6 +18,7 @@ pub struct Place {
 }
 
 // Puts the places of the semicolons of w, a part of a record that lies at a place, behind the places found; 39 where they are too many.
+// As it is: 39 for too many is the count that Extended of specs/ goes on with, and the wrong builds short, too_many, early_block change it.
 fn extend(stops: &mut [usize; 39], found: usize, w: &[u8], at: usize) -> usize
     requires { (length stops.old ≡ 39) × (found ≤ 38) × (at + length w.now < 2 ^ 64) }
     ensures { Extended stops.old found (semicolons_from at w.now) stops.new result }
@@ -173,6 +174,7 @@ pub fn field(record: &[u8], n: usize) -> &[u8]
 }
 
 // The byte of a field of one byte; 0 for any other field.
+// As it is: 0 for none, here and below, since `letter` of specs/, on which each group's tests are defined, has it so.
 #[tactic(auto, using(crate::proofs::FormLaws::letter_one, crate::proofs::FormLaws::letter_other))]
 pub fn letter_of(s: &[u8]) -> u8
     ensures { result ≡ letter s.now }

@@ -55,7 +55,7 @@ type Compartment = [u8; COMPARTMENT_SIZE];
 
 type Row = [u8; ROW_SIZE];
 
-// The state of a row, by its byte.
+// The state of a row, by its byte, which `as u8` gives where a byte is compared or written.
 #[derive(Clone, Copy)]
 pub enum State {
     Free = 0,
@@ -265,7 +265,7 @@ fn next_with(c: &Compartment, from: usize, place: usize, b: u8) -> usize
 }
 
 // The lowest free row of a compartment, 64 where none is free.
-// As it is: a number for none, since booking_of and booked of specs/ speak of that number, and their theorems compare it with the count of rows.
+// As it is: 64 for none. `booked` and `booking_of` take and hold this number, so that an Option would be made here only to be taken apart there.
 pub fn free_row(c: &[u8]) -> usize
     ensures { result ≡ free_row c.now }
 {
@@ -309,7 +309,7 @@ fn next_ending(c: &Compartment, from: usize, n: &[u8]) -> usize
 fn row_asked(c: &Compartment, n: &[u8], asked: Asked) -> usize
     ensures { result ≡ least row_count (is_asked_row asked (rows_of c.now) n.now) }
 {
-    // As it is: each turn goes on at the next row in which the last byte stands, so that no range or iterator of std counts k.
+    // As it is: each turn goes on at the next row in which the last byte stands; an iterator of such rows would be this loop in a type of its own.
     let mut k = next_ending(c, 0, n);
     while k < ROW_COUNT {
         if is_asked_with(row(c, k), n, asked) {
@@ -321,7 +321,7 @@ fn row_asked(c: &Compartment, n: &[u8], asked: Asked) -> usize
 }
 
 // The row of a compartment with the number n, 64 where none has it.
-// As it is: a number for none, as in free_row.
+// As it is: 64 for none, as in free_row; one call of row_asked, as its like is, which has what is asked for as a parameter.
 pub fn row_by_number(c: &[u8], n: &[u8]) -> usize
     ensures { result ≡ row_by_number c.now n.now }
 {
@@ -332,7 +332,7 @@ pub fn row_by_number(c: &[u8], n: &[u8]) -> usize
 }
 
 // The live row of a compartment with the number n, 64 where none has it.
-// As it is: a number for none, as in free_row.
+// As it is: 64 for none, as in free_row; one call of row_asked, as its like is, which has what is asked for as a parameter.
 pub fn live_row(c: &[u8], n: &[u8]) -> usize
     ensures { result ≡ live_row c.now n.now }
 {

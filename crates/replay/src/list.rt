@@ -16,6 +16,7 @@ use tables::Tables;
 const CALLS: usize = 4096;
 
 // The status of a record that passes for no bank.
+// As it is: it is compared with the status of an answer record, a byte.
 const STRANGER: u8 = 1;
 
 // The record of a call, with a small letter for each part that is drawn.

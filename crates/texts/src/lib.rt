@@ -25,6 +25,7 @@ pub const INDEX_SIZE: usize = 10001;
 
 // A blank entry of the index, from which the rows of our list are counted on; and what those of the member's are counted on from. The two bytes of a
 // blank entry differ: so a blank index is made in wide steps, and not byte by byte.
+// As it is: an entry is a number of two bytes, in a memory of fixed size, and `index_of` of specs/ says which.
 pub const BLANK: u16 = 1;
 
 const MEMBER_BASE: u16 = 10001;
