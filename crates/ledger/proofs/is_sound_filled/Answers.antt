@@ -1,12 +1,5 @@
-use mathlib.Core.Path.{ap, sym, ◌∙◌}
-use Rattle.ledger.specs.Row.{row_form}
 use Rattle.ledger.proofs.CheckLaws.{form_decides, number_decides, link_decides}
 use Rattle.ledger.proofs.is_sound_filled.Goals as goal
-
-pub is_other_number-requires : goal.is_other_number-requires
-is_other_number-requires c =
-    let form = ap row_form (sym c.row.ensures) ∙ sym c.is_row_form.ensures ∙ c.if-is_row_form.true in
-    record { after = record { after = c.requires.after; form = form }; fresh = c.requires.fresh }
 
 pub returns-then-is_other_number : goal.returns-then-is_other_number
 returns-then-is_other_number c =

@@ -5,32 +5,18 @@ use mathlib.Core.Path.{ap, sym, ◌∙◌}
 use Rattle.ledger.specs.declared.Asked.{Asked}
 use Rattle.ledger.specs.Row.{state}
 use Rattle.ledger.specs.Sound.{rows_of}
-use Rattle.ledger.specs.Lookup.{is_asked, is_named, is_asked_row}
-use Rattle.ledger.proofs.LookupLaws.{none_both, none_on, row_found, row_missing}
+use Rattle.ledger.specs.Lookup.{is_asked, is_asked_row}
+use Rattle.ledger.proofs.LookupLaws.{row_found, row_missing}
 use Rattle.ledger.proofs.row_asked.Goals as goal
 
 abbrev asks : Asked → List ℕ → ℕ → Bool
 asks asked c j = is_asked asked (state (rows_of c j))
-
-pub loop-k-init : goal.loop-k-init
-loop-k-init c =
-    let args = c.args in
-    (c.next_ending-k.ensures.1, none_both (asks args.asked args.c.now) (is_named (rows_of args.c.now) args.n.now) _ _ c.next_ending-k.ensures.2)
 
 pub returns-then-is_asked_with : goal.returns-then-is_asked_with
 returns-then-is_asked_with c =
     let args = c.args in
     let tested = sym (c.is_asked_with.ensures ∙ ap (λ (w : List ℕ). is_asked_row args.asked (λ k. w) args.n.now 0) c.row.ensures) in
     row_found (is_asked_row args.asked (rows_of args.c.now) args.n.now) c.loop-k.k c.loop-k-test.true c.loop-k.invariant.1 (tested ∙ c.if-is_asked_with.true)
-
-pub loop-k-preserved : goal.loop-k-preserved
-loop-k-preserved c =
-    let args = c.args in
-    let tested = sym (c.is_asked_with.ensures ∙ ap (λ (w : List ℕ). is_asked_row args.asked (λ k. w) args.n.now 0) c.row.ensures) in (
-      c.next_ending-k-in-loop-k.ensures.1,
-      none_on (asks args.asked args.c.now) (is_named (rows_of args.c.now) args.n.now) c.loop-k.k _ c.loop-k.invariant.1
-          (tested ∙ c.if-is_asked_with.false) c.next_ending-k-in-loop-k.ensures.2,
-    )
 
 pub returns : goal.returns
 returns c =

@@ -2,14 +2,14 @@ use native.Mathlib.Omega.{arith}
 use mathlib.Core.Bool.{not}
 use mathlib.Core.Path.{refl, ap, sym, ◌∙◌}
 use lib.ListN.{length-set}
-use borrow.Author.Tests.{ne_eqb, not-true}
+use borrow.Author.Tests.{ne_eqb}
 use Rattle.frame.proofs.EveryLaws.{every_none, every_more, every_broke}
 use Rattle.text.specs.Class.{is_zero}
 use Rattle.text.specs.Bytes.{all}
 use Rattle.ledger.specs.Row.{state, filled_row}
 use Rattle.ledger.specs.Slots.{slot_of}
 use Rattle.ledger.proofs.CheckLaws.{free_rest}
-use Rattle.ledger.proofs.SlotLaws.{marked_fresh, marked_more}
+use Rattle.ledger.proofs.SlotLaws.{marked_more}
 use Rattle.ledger.proofs.sound_rows.Goals as goal
 
 pub loop-k-init : goal.loop-k-init
@@ -20,17 +20,6 @@ returns-then-w c =
     let l = c.loop-k in
     c.is_zero.ensures ∙ ap (all is_zero) c.rest.ensures.bytes
     ∙ free_rest _ c.told-c l.k c.loop-k-test.true l.invariant.0 (ap state (sym c.row-w.ensures) ∙ c.if-w.true)
-
-pub is_sound_filled-requires : goal.is_sound_filled-requires
-is_sound_filled-requires c =
-    let l = c.loop-k in
-    let full = ap filled_row (sym c.row-w.ensures) ∙ ap not (ne_eqb _ _ c.if-w.false) in
-    let slot = c.slot_of-slot.ensures.0 ∙ ap slot_of c.row-w.ensures in
-    record {
-      after = record { within = c.loop-k-test.true; sound = l.invariant.0; filled = l.invariant.1 };
-      filled = full;
-      fresh = λ f. marked_fresh l.seen _ l.k l.invariant.2 slot (not-true _ f);
-    }
 
 pub returns-then-not-is_sound_filled : goal.returns-then-not-is_sound_filled
 returns-then-not-is_sound_filled c =

@@ -1,5 +1,5 @@
 use Rattle.std.proofs.Common.{◌≤◌, ◌<◌, [], refl, sym, ◌∙◌, arith}
-use Rattle.frame.proofs.EveryLaws.{every_none, every_more, every_broke, every_done}
+use Rattle.frame.proofs.EveryLaws.{every_none, every_more, every_broke}
 use Rattle.tables.specs.Currencies.{currency_count}
 use Rattle.tables.proofs.CodeLaws.{code_low, code_special, code_in_order, code_kept}
 use Rattle.tables.proofs.ascends.Goals as goal
@@ -31,8 +31,3 @@ loop-w-preserved c =
       every_more _ _ c.loop-w.invariant.0 (code_in_order _ c.requires.0 c.requires.1 _ inside c.loop-w.invariant.1 code read above plain),
       code_kept _ c.requires.0 c.requires.1 _ inside c.loop-w.invariant.1 code read,
     )
-
-pub returns : goal.returns
-returns c =
-    every_done _ _ c.loop-w.w-index (omega (arith, c.codes-w-items.ensures.count, c.loop-w.auto.w-index-end))
-    (omega (arith, c.codes-w-items.ensures.count, c.loop-w-test.false)) c.loop-w.invariant.0

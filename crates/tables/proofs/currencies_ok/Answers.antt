@@ -18,9 +18,6 @@ returns-then-t-ne0 c =
     let t = c.args.t.now in
     table_ragged (currency_limit * currency_size) currency_size (currency_ok t) t c.if-t-ne0.true
 
-pub ascends-requires : goal.ascends-requires
-ascends-requires c = (omega arith, sym c.all.ensures ∙ c.if-all.true)
-
 pub returns-then-all : goal.returns-then-all
 unfolding currencies_ok
 returns-then-all c =

@@ -1,18 +1,9 @@
-use Rattle.std.proofs.Common.{◌≡◌, ◌<◌, ◌≤◌, ℕ, List, [], length, get_or, refl, sym, ap, ◌∙◌, arith, Bool, ◌&&◌, not}
-use Rattle.std.proofs.lemmas.List.{length-take-le}
+use Rattle.std.proofs.Common.{◌≡◌, ◌<◌, ℕ, List, [], length, get_or, refl, ap, ◌∙◌, arith, Bool, ◌&&◌, not}
 use Rattle.frame.specs.Every.{every}
 use Rattle.frame.proofs.ListLaws.{list_all_front}
 use Rattle.text.specs.Bytes.{same}
 use Rattle.tables.specs.Reporters.{code_of, address_of, reporter_form, reporter_at, reporter_ok, reporters_differ}
 use Rattle.tables.proofs.reporter_ok.Goals as goal
-
-pub bounds-rows-k : goal.bounds-rows-k
-bounds-rows-k c = omega (arith, c.requires, c.rows-rows.ensures.count)
-
-pub slice_bounds-is_new-end : goal.slice_bounds-is_new-end
-slice_bounds-is_new-end c =
-    let inside : c.args.k ≤ length c.rows-rows.result.now = omega (arith, c.requires, c.rows-rows.ensures.count) in
-    sym (length-take-le _ _ inside)
 
 pub returns : goal.returns
 unfolding reporter_ok reporters_differ
