@@ -13,7 +13,6 @@ use lib.Dec.{eqb, ltb}
 use lib.ListN.{length, get_or, take, drop, set, length-append, length-set, length-replicate, get_or-replicate, get_or-append}
 use lib.Seq.{get_or-set_same, get_or-set_other, get_or_at, ext_get_or}
 use Rattle.frame.proofs.BoolLaws.{and_false, and_intro}
-use Rattle.frame.proofs.StoreLaws.{store_more}
 use Rattle.text.specs.Class.{is_digit, is_text_byte}
 use Rattle.text.specs.Bytes.{all}
 use Rattle.texts.specs.Texts.{text_code_size, code_count, text_count, text_row, text_code, text_row_ok, texts_ok, row_among, row_number, holds_text}
@@ -99,19 +98,6 @@ value_at (suc n) f k h = go (dec_lt k n) (value_at n f k)
 -- a blank index
 blank_at : (code : ℕ) → code < index_size → get_or blank_index code 0 ≡ blank_entry
 blank_at code h = get_or-replicate index_size code blank_entry 0 h
-
--- as it is made, entry by entry
-pub blank_none : (rows : List ℕ) (k : ℕ) → k < 0 → get_or rows k 0 ≡ get_or blank_index k 0
-blank_none rows k h = absurd (omega arith)
-
-pub blank_more : (rows : List ℕ) (i : ℕ) → length rows ≡ index_size → i < index_size → ((k : ℕ) → k < i → get_or rows k 0 ≡ get_or blank_index k 0)
-    → (k : ℕ) → k < i + 1 → get_or (set rows i blank_entry) k 0 ≡ get_or blank_index k 0
-blank_more rows i z h = store_more rows blank_index i blank_entry (rw z h) (sym (blank_at i h))
-
-pub blank_whole : (rows : List ℕ) (i : ℕ) → length rows ≡ index_size → index_size ≤ i → ((k : ℕ) → k < i → get_or rows k 0 ≡ get_or blank_index k 0)
-    → rows ≡ blank_index
-blank_whole rows i z h f =
-    ext_get_or 0 rows blank_index (z ∙ sym (length-replicate {A = ℕ} index_size blank_entry)) (λ k l. f k (let inside : k < index_size = rw z at l in omega arith))
 
 pub open_blank : (rows : List ℕ) → rows ≡ blank_index → Open blank_entry rows
 open_blank rows e =

@@ -1,9 +1,6 @@
 use Rattle.calls.proofs.CallLaws.{settles, settled_lem}
 use Rattle.calls.proofs.admitted.Goals as goal
 
-pub judged-foreseen-requires : goal.judged-foreseen-requires
-judged-foreseen-requires c = c.requires
-
 pub settle-requires : goal.settle-requires
 settle-requires c = settles _ _ _ c.requires c.judged-foreseen.ensures
 

@@ -10,8 +10,5 @@ returns-in_err-refusal c =
     let p = err_from_is_err_and c.from_residual.result c.from_residual.ensures.1 in
     rw (p.1, p.2) (call_refused _ _ _ c.in_err-refusal.ensures (number_some _) ∙ sym (in_a_row_lem _ _ _))
 
-pub admitted-requires : goal.admitted-requires
-admitted-requires c = sym c.in_ok-refusal.ensures
-
 pub returns : goal.returns
 returns c = c.admitted.ensures ∙ sym (in_a_row_lem _ _ _)

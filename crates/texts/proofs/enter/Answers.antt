@@ -14,10 +14,6 @@ pub returns-then-not-all : goal.returns-then-not-all
 returns-then-not-all c =
     (broken_bytes _ (sym c.all.ensures ∙ (c.if-not-all.true)), c.requires.size, λ t. absurd (false≢true t))
 
-pub enter_rows-requires : goal.enter_rows-requires
-enter_rows-requires c =
-    (c.requires, c.if-t-gt-CODE_COUNT.false, sym c.all.ensures ∙ (c.if-not-all.false))
-
 pub returns : goal.returns
 returns c =
     let c-enter-rows = c.enter_rows in

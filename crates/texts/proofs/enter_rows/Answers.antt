@@ -1,35 +1,19 @@
-use mathlib.Core.Bool.{true, false≢true}
-use mathlib.Core.Path.{◌≡◌, sym, subst, ◌∙◌}
-use Prim.Native.Nat.{ℕ}
-use Rattle.frame.specs.Every.{every}
-use native.Mathlib.Omega.{arith}
+use mathlib.Core.Bool.{false≢true}
+use mathlib.Core.Path.{sym, ◌∙◌}
 use Rattle.frame.proofs.EveryLaws.{every_none, every_more, every_broke}
-use Rattle.texts.specs.Texts.{text_count, text_row_ok}
-use Rattle.texts.proofs.TextLaws.{row_tested, row_ready, row_code, row_bytes, row_unformed}
-use Rattle.texts.proofs.IndexLaws.{entered_none, entered_twice, entered_good, entered_more, entered_all}
+use Rattle.texts.specs.Texts.{text_row_ok}
+use Rattle.texts.proofs.TextLaws.{row_tested, row_code, row_bytes, row_unformed}
+use Rattle.texts.proofs.IndexLaws.{entered_none, entered_twice, entered_good, entered_more}
 use Rattle.texts.proofs.enter_rows.Goals as goal
 
 pub loop-k-init : goal.loop-k-init
 loop-k-init c = (every_none (text_row_ok c.args.t.now), entered_none _ _ _ c.requires.0)
-
-pub shape_of-rows-then-not-all : goal.shape_of-rows-then-not-all
-shape_of-rows-then-not-all c =
-    c.loop-k.invariant.1.size ∙ sym c.requires.0.size
 
 pub returns-then-not-all : goal.returns-then-not-all
 returns-then-not-all c =
     let inside = c.loop-k-test.true in
     let tested = row_tested _ _ inside c.front.ensures.bytes c.all.ensures in
     (every_broke _ _ _ inside (row_unformed _ _ (tested ∙ (c.if-not-all.true))), c.loop-k.invariant.1.size, λ t. absurd (false≢true t))
-
-pub code_of-code-requires : goal.code_of-code-requires
-code_of-code-requires c =
-    let inside = c.loop-k-test.true in
-    let tested = row_tested _ _ inside c.front.ensures.bytes c.all.ensures in
-    row_ready _ _ inside (tested ∙ (c.if-not-all.false))
-
-pub bounds-rows-code : goal.bounds-rows-code
-bounds-rows-code c = omega (arith, c.code_of-code.ensures.1, c.loop-k.invariant.1.size)
 
 pub shape_of-rows-then-base-rows : goal.shape_of-rows-then-base-rows
 shape_of-rows-then-base-rows c =
@@ -42,18 +26,6 @@ returns-then-base-rows c =
     let twice = entered_twice _ _ _ _ _ c.requires.0 c-loop.invariant.1 (row_code _ _ inside c.code_of-code.ensures.0) c.code_of-code.ensures.1 in
     (every_broke _ _ _ inside (twice c.if-base-rows.true), c-loop.invariant.1.size, λ t. absurd (false≢true t))
 
-pub overflow_cast-rows : goal.overflow_cast-rows
-overflow_cast-rows c =
-    omega (arith, c.loop-k-test.true, c.requires.1)
-
-pub overflow_add-rows : goal.overflow_add-rows
-overflow_add-rows c =
-    omega (arith, c.loop-k-test.true, c.requires.1, c.requires.0.within)
-
-pub bounds-rows-code-in-loop-k : goal.bounds-rows-code-in-loop-k
-bounds-rows-code-in-loop-k c =
-    omega (arith, c.code_of-code.ensures.1, c.loop-k.invariant.1.size)
-
 pub loop-k-preserved : goal.loop-k-preserved
 loop-k-preserved c =
     let inside = c.loop-k-test.true in
@@ -64,12 +36,3 @@ loop-k-preserved c =
     let good = entered_good _ _ _ _ _ c.requires.0 l.invariant.1 here c.code_of-code.ensures.1 digits texts c.if-base-rows.false in
     let more = entered_more _ _ _ _ _ c.requires.0 l.invariant.1 here c.code_of-code.ensures.1 c.if-base-rows.false in
     (every_more _ _ l.invariant.0 good, more)
-
-pub shape_of-rows : goal.shape_of-rows
-shape_of-rows c = c.loop-k.invariant.1.size ∙ sym c.requires.0.size
-
-pub returns : goal.returns
-returns c =
-    let l = c.loop-k in
-    let done : l.k ≡ text_count c.args.t.now = omega arith in
-    (subst (λ (n : ℕ). true ≡ every n (text_row_ok c.args.t.now)) done (sym l.invariant.0), l.invariant.1.size, λ t. entered_all _ _ _ _ done l.invariant.1)

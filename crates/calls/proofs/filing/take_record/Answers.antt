@@ -1,19 +1,11 @@
 use Prim.Native.Nat.{◌+◌, ◌≤◌}
 use native.Mathlib.Omega.{arith}
 use lib.ListN.{length}
-use Rattle.calls.proofs.TakingLaws.{end_within, end_admitted, end_taken}
+use Rattle.calls.proofs.TakingLaws.{end_within, end_taken}
 use Rattle.calls.proofs.filing.take_record.Goals as goal
 
 pub slice_bounds-admitted-end : goal.slice_bounds-admitted-end
 slice_bounds-admitted-end c =
-    let within : c.record_end-end.result + 2 ≤ length c.args.body.now = end_within _ _ _ _ _ _ _ c.requires c.record_end-end.ensures in
-    omega (arith, within)
-
-pub admitted-answer-requires : goal.admitted-answer-requires
-admitted-answer-requires c = end_admitted _ _ _ _ _ _ _ c.requires c.record_end-end.ensures
-
-pub overflow_add-result : goal.overflow_add-result
-overflow_add-result c =
     let within : c.record_end-end.result + 2 ≤ length c.args.body.now = end_within _ _ _ _ _ _ _ c.requires c.record_end-end.ensures in
     omega (arith, within)
 

@@ -7,32 +7,11 @@ use Rattle.calls.specs.Call.{found_rows, step_failures}
 use Rattle.calls.proofs.CallLaws.{indexed, free_small, failures_judged, failures_found, foreseen_failed, foreseen_booked, entry_by, rows_found}
 use Rattle.calls.proofs.judging.foresee.Goals as goal
 
-pub answer_of-requires : goal.answer_of-requires
-answer_of-requires c = (c.requires.row, omega arith, c.requires.short)
-
 pub returns-then-not-is_empty : goal.returns-then-not-is_empty
 returns-then-not-is_empty c =
     let some = sym c.is_empty.ensures ∙ c.if-not-is_empty.true in
     let a = c.args in
     foreseen_failed a.formal _ (compartment a.formal.row a.ledger.now) (sym (failures_judged _ _ _ some)) some c.answer_of.ensures
-
-pub overflow_mul-a : goal.overflow_mul-a
-overflow_mul-a c =
-    let bank : c.args.formal.row < bank_count = c.requires.bank (sym c.is_empty.ensures ∙ c.if-not-is_empty.false) in
-    omega arith
-
-pub overflow_add-e : goal.overflow_add-e
-overflow_add-e c =
-    let bank : c.args.formal.row < bank_count = c.requires.bank (sym c.is_empty.ensures ∙ c.if-not-is_empty.false) in
-    omega arith
-
-pub slice_bounds-judge_booking-end : goal.slice_bounds-judge_booking-end
-slice_bounds-judge_booking-end c =
-    let bank : c.args.formal.row < bank_count = c.requires.bank (sym c.is_empty.ensures ∙ c.if-not-is_empty.false) in
-    omega (arith, c.requires.sized)
-
-pub answer_of-requires-then-not-is_empty-2 : goal.answer_of-requires-then-not-is_empty-2
-answer_of-requires-then-not-is_empty-2 c = (c.requires.row, omega arith, c.requires.short)
 
 pub returns-then-not-is_empty-2 : goal.returns-then-not-is_empty-2
 returns-then-not-is_empty-2 c =

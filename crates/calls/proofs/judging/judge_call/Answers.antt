@@ -9,8 +9,5 @@ returns-in_err-refusal c =
     let p = err_from_is_err_and c.from_residual.result c.from_residual.ensures.1 in
     rw (p.1, p.2) (judged_refused _ _ _ c.in_err-refusal.ensures (number_some _))
 
-pub judged-requires : goal.judged-requires
-judged-requires c = sym c.in_ok-refusal.ensures
-
 pub returns : goal.returns
 returns c = judged_answered _ _ _ (sym c.in_ok-refusal.ensures) c.judged.ensures
