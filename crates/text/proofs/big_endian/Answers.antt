@@ -1,12 +1,11 @@
 use Rattle.std.proofs.Common.{List, ℕ}
 use Prim.Native.Nat.{◌+◌, ◌*◌, ◌^◌, ◌≤◌, ◌<◌}
 use native.Mathlib.Omega.{arith}
-use mathlib.Core.Path.{ap, ◌∙◌}
+use mathlib.Core.Path.{ap}
 use lib.Dec.{lit<}
 use lib.ListN.{length, get_or, length-take}
-use Rattle.text.specs.Number.{big_endian}
 use Rattle.text.proofs.NumberLaws.{digit_more, below_power}
-use Rattle.text.proofs.WordLaws.{big_none, big_more, big_end}
+use Rattle.text.proofs.WordLaws.{big_none, big_more}
 use Rattle.text.proofs.big_endian.Goals as goal
 
 -- with the next byte the number is below the next power, which a word holds
@@ -27,15 +26,7 @@ overflow_mul-number c =
     let l = c.loop-b in
     record { fits = omega (arith, fits _ l.number l.b-index (c.type_inv.w l.b-index).fits l.invariant.2 c.loop-b-test.true l.invariant.0) }
 
-pub overflow_add-number : goal.overflow_add-number
-overflow_add-number c =
-    let l = c.loop-b in
-    record { fits = omega (arith, fits _ l.number l.b-index (c.type_inv.w l.b-index).fits l.invariant.2 c.loop-b-test.true l.invariant.0) }
-
 pub loop-b-preserved : goal.loop-b-preserved
 loop-b-preserved c =
     let l = c.loop-b in
     rw c.from.ensures (l.invariant.0, big_more _ _ c.loop-b-test.true l.invariant.1, more _ l.number l.b-index (c.type_inv.w l.b-index).fits l.invariant.2)
-
-pub returns : goal.returns
-returns c = big_end _ _ c.loop-b-test.false c.loop-b.invariant.1 ∙ ap big_endian c.front-w.ensures.bytes
