@@ -1,9 +1,6 @@
 use mathlib.Core.Path.{sym, ◌∙◌}
-use Rattle.error_file.proofs.PieceLaws.{writing_start, writing_more, writing_done, lined_code}
+use Rattle.error_file.proofs.PieceLaws.{writing_more, writing_done, lined_code}
 use Rattle.error_file.proofs.Texts.append_pieces.Goals as goal
-
-pub loop-next-init : goal.loop-next-init
-loop-next-init c = writing_start _ _ _ _ _ c.requires
 
 pub append_piece-requires : goal.append_piece-requires
 append_piece-requires c =

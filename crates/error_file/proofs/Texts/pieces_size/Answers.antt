@@ -4,11 +4,8 @@ use mathlib.Core.Path.{◌≡◌, sym, ◌∙◌}
 use lib.ListN.{length-take}
 use Rattle.std.specs.Prelude.{Some}
 use Rattle.envelope.specs.Body.{line_end}
-use Rattle.error_file.proofs.PieceLaws.{Summed, summed_start, summed_more, summed_done, lined_placed, lined_code}
+use Rattle.error_file.proofs.PieceLaws.{Summed, summed_more, summed_done, lined_placed, lined_code}
 use Rattle.error_file.proofs.Texts.pieces_size.Goals as goal
-
-pub loop-next-init : goal.loop-next-init
-loop-next-init c = summed_start _ _ _ _ c.requires
 
 pub piece_size-size-requires : goal.piece_size-size-requires
 piece_size-size-requires c =
