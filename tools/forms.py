@@ -45,6 +45,18 @@ def twins():
     return [p for group in same.values() if len(group) > 1 for p in group]
 
 
+def pairs():
+    """Enums of two cases, of which one or both hold a value."""
+    found = []
+    for name in FILES:
+        text = open(name, encoding="utf-8").read()
+        for m in re.finditer(r"^ *(?:pub(?:\(crate\))? )?enum (\w+) \{\n(.*?)\n *\}", text, re.M | re.S):
+            cases = [line.strip() for line in m.group(2).splitlines() if line.strip() and not line.strip().startswith(("//", "#"))]
+            if len(cases) == 2 and any("(" in case or "{" in case for case in cases):
+                found.append(f"{name}:{text.count(chr(10), 0, m.start()) + 1} {m.group(1)}")
+    return found
+
+
 def heads(*words):
     """Functions with all of these parameters."""
     return [place for place, head, _ in functions() if all(re.search(rf"\b{w}: ", head) for w in words)]
@@ -53,12 +65,14 @@ def heads(*words):
 POINTS = [
     ("1 own enums of the shape of Option, Result or Ordering",
      places(r"\benum (?:Filed|Replied|Decimal|Piece|Body|Head|Opened|Wrote|Checked|Order)\b")),
+    ("1 own enums of two cases, of which one holds a value", pairs()),
     ("1 other own enums", places(r"^\s*(?:pub(?:\(crate\))? )?enum (?!Filed|Replied|Decimal|Piece|Body|Head|Opened|Wrote|Checked|Order\b)")),
     ("1 fields that are flags", places(r"^\s+(?:pub )?\w+: bool,$")),
     ("1 refusals as numbers, or by a case of one's own", places(r"return [1-9][0-9]*;|Refused\(|refusal_in\(|\bn != 0")),
     ("1 constants that number kinds", places(r"^\s*(?:pub )?const [A-Z_]+: u8 =")),
     ("2 functions alike but for names, numbers and texts", twins()),
     ("3 loops by while", places(r"\bwhile\b")),
+    ("3 loops by for over numbers", places(r"\bfor \w+ in \(?\w[\w().]*\.\.")),
     ("4 equality, order, width by functions of one's own", places(r"\b(?:text::)?(?:same|compare|wide)\(|\.same\(")),
     ("4 conversions by as", places(r"\bas (?:u8|u16|u32|u64|usize)\b")),
     ("5 functions lent reporters and currencies", heads("reporters", "currencies")),
