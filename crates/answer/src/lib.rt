@@ -53,6 +53,7 @@ fn fill(w: &mut [u8], a: Answer)
     text::write(w, 14, a.length);
 }
 
+// As it is: a place and no page, since answers stand at places of their own and not one behind another's end.
 // Writes the answer into the sixteen bytes of out from a place on; nothing where they are not all there.
 #[tactic(auto, using(crate::proofs::AnswerLaws::writing_laws))]
 pub fn write(a: Answer, out: &mut [u8], at: usize)

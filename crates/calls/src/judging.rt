@@ -46,6 +46,7 @@ pub(crate) struct Foreseen {
     pub entry: Option<Entry>,
 }
 
+// As it is: a sender and a record, and no `Call`, since the record is looked over by then.
 // Judges places 0 to 60: the sender check, then 7 to 60 for a record that passes it. It is lent no ledger.
 pub fn judge_formal(tables: Tables, sender: &[u8], record: &Record) -> Formal
     ensures { let t = lent tables.entry in result ≡ formal_by t.reporters (found_money t.currencies) sender.now
@@ -62,6 +63,7 @@ pub fn judge_formal(tables: Tables, sender: &[u8], record: &Record) -> Formal
             row,
             failed: checks::judge(tables, row, record),
         },
+        // As it is: `as` widens, as in settle.
         Err(failed) => Formal {
             row: NO_REPORTER as usize,
             failed,
@@ -70,6 +72,7 @@ pub fn judge_formal(tables: Tables, sender: &[u8], record: &Record) -> Formal
 }
 
 // The answer to a record with these failures, for a reporter's row, booked in a new row.
+// As it is: `as` makes each number as narrow as the answer record has it; a `try_from` with an `unwrap` would be no plainer.
 fn answer_of(failed: Failures, row: usize, new: usize, record: &[u8]) -> Answer
     requires { (row < 256) × (new < 65536) × (length «record».now ≤ record_limit) }
     ensures { result ≡ answer_of failed row new «record».now }

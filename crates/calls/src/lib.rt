@@ -79,6 +79,7 @@ pub(crate) fn settle(ledger: &mut [u8], foreseen: Foreseen, record: &[u8])
     ensures { ledger.new ≡ settled foreseen «record».now ledger.old }
 {
     if let Some(entry) = foreseen.entry {
+        // As it is: `as` widens here and below; by `usize::from` an answer would have to carry what that gives, no plainer.
         let a = foreseen.answer.row as usize * COMPARTMENT_SIZE;
         let e = a + COMPARTMENT_SIZE;
         let start = entry.number.start;

@@ -13,6 +13,7 @@ use fields::Record;
 use ledger::ROW_COUNT;
 use tables::Tables;
 
+// As it is: 64 for none in both rows, as ledger gives it and booking takes it.
 // What places 61 to 63 find: their failures, the lowest free row, and the live row that the record names.
 #[derive(Clone, Copy)]
 pub struct Booking {

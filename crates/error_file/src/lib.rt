@@ -59,6 +59,7 @@ fn codes_named(index: &Index, answers: &[u8], n: usize) -> bool
 }
 
 // Which of the refusals 15 to 18 applies first to a report of n records.
+// As it is: a date and a time, here and below, which `enclosing` parts again at once; a struct of both would be no plainer.
 #[tactic(auto, using(frame::proofs::ReplyLaws::test_applies, frame::proofs::ReplyLaws::test_passes, frame::proofs::ReplyLaws::first_end))]
 fn flaw(answers: &[u8], index: &Index, date: &[u8], time: &[u8], n: usize) -> Result<(), Refusal>
     requires { n ≤ record_count_limit }
@@ -116,7 +117,8 @@ impl Texts<'_, '_> {
         let mut size: usize = 0;
         let mut at: usize = 0;
         let mut k: usize = 0;
-        // As it is: the place goes from line to line, here and in append_pieces; a walk with a closure that counts or writes would have to say what the closure changes.
+        // As it is: the place goes from line to line, here and in append_pieces; a walk with a closure that counts or writes would have to say what the
+        // closure changes.
         while let Some(next) = envelope::line_end(body, at) {
             size += self.piece_size(code_in(answers, k), &body[at..next]);
             at = next;

@@ -55,7 +55,8 @@ type Compartment = [u8; COMPARTMENT_SIZE];
 
 type Row = [u8; ROW_SIZE];
 
-// The state of a row, by its byte, which `as u8` gives where a byte is compared or written.
+// The state of a row, by its byte.
+// As it is: `as u8` gives the byte where one is compared or written; a `From` would be one more name for it, no plainer.
 #[derive(Clone, Copy)]
 pub enum State {
     Free = 0,
@@ -251,6 +252,7 @@ pub fn sound_ledger(l: &[u8]) -> bool
 }
 
 // The first row from a row on with a byte at a place, 64 where there is none.
+// As it is: 64 for none, here and in the searches below, as in free_row.
 fn next_with(c: &Compartment, from: usize, place: usize, b: u8) -> usize
     requires { (from ≤ row_count) × (place < row_size) }
     ensures { FirstFrom (λ j. eqb (get_or (rows_of c.now j) place 0) b) from result }

@@ -10,6 +10,7 @@ fn row_from(reporters: &[u8], bank: usize, place: usize) -> &[u8] {
 }
 
 // The code of a bank.
+// As it is: three of one line each over `row_from`, which has the place as a parameter.
 pub(crate) fn code(reporters: &[u8], bank: usize) -> &[u8] {
     text::front(row_from(reporters, bank, 0), 5)
 }

@@ -82,6 +82,7 @@ pub fn accepted(page: &mut Page, answers: &[u8], n: usize)
 }
 
 // Writes what is printed of a call that is refused.
+// As it is: any number is printed, here and in append_refused_line; a `Refusal` would ask more.
 #[tactic(auto, using(page::proofs::LentLaws::with_both, std::proofs::Common::append_assoc), unfolding(crate::specs::Results::refused_text))]
 pub fn refused(page: &mut Page, n: u8)
     ensures { page.new ≡ with_text page.old (refused_text n) }

@@ -47,6 +47,7 @@ fn judge_reporter(
     ]
 }
 
+// As it is: it takes fields, as the judges of the groups do, and no `Record`: parts of different texts have an answer too, and a `Record` would ask more.
 // The sender check: the reporter's row for which the record passes, or the failures of places 0 to 6. A record without 38 semicolons fails at place 0,
 // and nothing else is looked at.
 pub fn check(

@@ -161,6 +161,7 @@ pub fn reporters_ok(t: &[u8]) -> bool
 }
 
 // Whether row k has the bank code f.
+// As it is: three look-ups of one line each, and two below; the closure is what they differ in.
 #[tactic(auto, using(text::proofs::SameLaws::eq_same), unfolding(crate::specs::Reporters::has_code))]
 pub fn has_code(t: &[u8], f: &[u8], k: usize) -> bool
     ensures { result ≡ has_code t.now f.now k }

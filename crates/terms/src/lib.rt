@@ -22,6 +22,7 @@ fn is_positive(s: &[u8], m: usize, n: usize) -> bool
 }
 
 // Whether each of places 31 to 41 fails.
+// As it is: `money21` and `money24` are two tests, each asked once for several groups; no value stands beside them.
 #[tactic(auto, unfolding(crate::specs::Terms::terms_tests))]
 pub fn judge_terms(
     money21: bool,

@@ -25,6 +25,7 @@ fn print(rt: &impl Print, line: &[u8], right: bool) -> io::Result<()> {
 }
 
 // Prints whether the value is an ISIN with the right check digit.
+// As it is: two of one line each over `print`, which has the verdict as a parameter.
 pub(crate) fn print_isin(rt: &impl Print, line: &[u8]) -> io::Result<()> {
     print(rt, line, identifier::is_isin(value(before(line, b' '))))
 }
