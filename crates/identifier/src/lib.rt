@@ -38,7 +38,7 @@ fn is_completion(s: &[u8], t: &[u8]) -> bool
         return false;
     }
     let (address, added) = t.split_at(8);
-    (s == address) & (added == b"XXX".as_slice())
+    text::same(s, address) & (added == b"XXX".as_slice())
 }
 
 // Whether two addresses are the same, eight bytes meaning the same with XXX added.
@@ -47,7 +47,7 @@ pub fn same_address(s: &[u8], t: &[u8]) -> bool
     ensures { result ≡ same_address s.now t.now }
 {
     if s.len() == t.len() {
-        s == t
+        text::same(s, t)
     } else if s.len() == 8 {
         is_completion(s, t)
     } else {

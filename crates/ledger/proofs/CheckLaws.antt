@@ -12,7 +12,7 @@ use lib.ListN.{length, take, drop, drop_of_length-le}
 use lib.Seq.{drop-drop}
 use Rattle.frame.specs.Every.{every}
 use Rattle.frame.specs.Parts.{part}
-use Rattle.frame.proofs.BoolLaws.{and_assoc, and_goes, and_intro, and_left, and_right, and_stops}
+use Rattle.frame.proofs.BoolLaws.{and_assoc, and_goes, and_intro, and_left, and_right, and_stops, both_ways}
 use Rattle.frame.proofs.EveryLaws.{every_at, every_intro}
 use Rattle.text.specs.Class.{is_zero}
 use Rattle.text.specs.Bytes.{all}
@@ -20,7 +20,7 @@ use Rattle.text.specs.Number.{number_at}
 use Rattle.text.proofs.ByteLaws.{all_get, all_split}
 use Rattle.ledger.specs.Row.{row_size, free, live, cancelled, cancellation, no_partner, state, filled_row, number, partner, row_form}
 use Rattle.ledger.specs.Sound.{Rows, rows_of, row_count, compartment_size, points_back, linked, precedes, sound_row, FormAfterSound}
-use Rattle.ledger.proofs.FormLaws.{both_ways, same_words}
+use Rattle.ledger.proofs.FormLaws.{same_words}
 use Rattle.ledger.proofs.SoundLaws.{row_length, filled_row_lem, earlier_filled}
 
 -- a filled row is sound where it has the form, another number than the rows before it, and the links that its state asks

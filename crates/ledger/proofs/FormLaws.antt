@@ -9,7 +9,7 @@ use borrow.Author.Tests.{eq-eqb, ne_eqb, eqb-true, leb-true, lt-ltb, ltb-true}
 use lib.Dec.{eqb, leb}
 use lib.ListN.{length, take, drop, length-append, length-take, length-drop, take-append-drop}
 use lib.Seq.{drop_at, take-take, take-add, drop-drop, take-append_seam}
-use Rattle.frame.proofs.BoolLaws.{and_left, and_right, and_intro}
+use Rattle.frame.proofs.BoolLaws.{and_left, and_right, and_intro, both_ways}
 use Rattle.text.specs.Class.{is_zero, is_capital_or_digit}
 use Rattle.text.specs.Bytes.{all, same, position_of}
 use Rattle.text.specs.Number.{little_endian, number_at}
@@ -17,12 +17,6 @@ use Rattle.text.proofs.ByteLaws.{is_byte, all_append, all_weaker, same_true, sam
 use Rattle.identifier.specs.Identifier.{name_up_to}
 use Rattle.ledger.specs.Row.{row_size, live, cancellation, number_place, number_room, largest_quantity, zeros_place, is_side}
 use Rattle.ledger.specs.Row.{state, number_length, number, number_padding, quantity, side, row_form}
-
--- two tests that imply each other are one
-pub both_ways : (a b : Bool) → (a ≡ true → b ≡ true) → (b ≡ true → a ≡ true) → a ≡ b
-both_ways true b f g = sym (f refl)
-both_ways false true f g = g refl
-both_ways false false f g = refl
 
 zero_byte : (b : ℕ) → is_zero b ≡ true → is_byte b ≡ true
 zero_byte b h = let e : b ≡ 0 = eqb-true b 0 h in lt-ltb b 256 (omega arith)

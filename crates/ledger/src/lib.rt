@@ -288,11 +288,10 @@ fn is_asked(state: u8, asked: Asked) -> bool
 }
 
 // Whether the state of a row is asked for, and its number is n; the number first, since most rows that are looked at have another.
-#[tactic(auto, using(text::proofs::SameLaws::eq_same))]
 fn is_asked_with(w: &Row, n: &[u8], asked: Asked) -> bool
     ensures { result ≡ (is_asked asked (state w.now) && same (number w.now) n.now) }
 {
-    number_of(w) == n && is_asked(w[STATE_PLACE], asked)
+    text::same(number_of(w), n) && is_asked(w[STATE_PLACE], asked)
 }
 
 // The next row, from a row on, that may have the number n: the last byte of n stands in it where the number would end. Numbers begin alike, so

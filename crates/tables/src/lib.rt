@@ -122,7 +122,7 @@ fn rows_differ(v: &Row, w: &Row) -> bool
     if !may_agree(v, w) {
         return true;
     }
-    (code_of(v) != code_of(w)) & (address_of(v) != address_of(w))
+    (code_of(v) != code_of(w)) & !text::same(address_of(v), address_of(w))
 }
 
 // Whether row w differs from each row before it.

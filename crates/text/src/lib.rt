@@ -1,10 +1,10 @@
 // Bytes and slices of them: classes, comparison, search, parts, numbers as bytes.
 #![tactic(auto)]
 
-ghost use Rattle.std.specs.Prelude.{◌≡◌, ℕ, eqb, length, take, drop};
+ghost use Rattle.std.specs.Prelude.{◌≡◌, ◌≤◌, ◌+◌, ℕ, eqb, length, take, drop};
 ghost use Rattle.frame.specs.Every.{within};
 ghost use Rattle.text.specs.Class.{belongs_to, is_word_byte, is_record_byte, is_text_byte, is_zero};
-ghost use Rattle.text.specs.Bytes.{all as all_of, position_of};
+ghost use Rattle.text.specs.Bytes.{all as all_of, same as same_bytes, position_of};
 ghost use Rattle.text.specs.Part.{Lies, rest_start};
 ghost use Rattle.text.specs.Number.{big_endian, number_at, number_put};
 
@@ -154,6 +154,32 @@ pub fn all(c: Class, s: &[u8]) -> bool
         marks |= mark(c, *b);
     }
     marks == 0
+}
+
+// Whether two texts of one length, of N bytes to twice as many, are the same: their last N bytes, and their first N. Numbers and addresses begin alike, so
+// that the last are compared first.
+#[tactic(auto, using(crate::proofs::SameLaws::eq_same, crate::proofs::SameLaws::ends_same))]
+fn same_ends<const N: usize>(a: &[u8], b: &[u8]) -> bool
+    requires { (length a.now ≡ length b.now) × (N ≤ length a.now) × (length a.now ≤ N + N) }
+    ensures { result ≡ same_bytes a.now b.now }
+{
+    (a.last_chunk::<N>().unwrap() == b.last_chunk::<N>().unwrap())
+        & (a.first_chunk::<N>().unwrap() == b.first_chunk::<N>().unwrap())
+}
+
+// Whether a and b hold the same bytes. Up to 16 of them, as those of a number or an address, are compared in two steps.
+#[tactic(auto, using(crate::proofs::SameLaws::eq_same))]
+pub fn same(a: &[u8], b: &[u8]) -> bool
+    ensures { result ≡ same_bytes a.now b.now }
+{
+    if a.len() != b.len() {
+        return false;
+    }
+    match a.len() {
+        4..8 => same_ends::<4>(a, b),
+        8..=16 => same_ends::<8>(a, b),
+        _ => a == b,
+    }
 }
 
 // Where b first stands in s, if it does.
