@@ -156,9 +156,10 @@ pub fn all(c: Class, s: &[u8]) -> bool
     marks == 0
 }
 
-// Whether two texts of one length, of N bytes to twice as many, are the same: their last N bytes, and their first N. Numbers and addresses begin alike, so
-// that the last are compared first.
+// Whether two texts of one length, of N bytes to twice as many, are the same: their last N bytes, and their first N. Always inlined, as below: each is a
+// step or two, and fewer where the caller knows the length.
 #[tactic(auto, using(crate::proofs::SameLaws::eq_same, crate::proofs::SameLaws::ends_same))]
+#[inline(always)]
 fn same_ends<const N: usize>(a: &[u8], b: &[u8]) -> bool
     requires { (length a.now ≡ length b.now) × (N ≤ length a.now) × (length a.now ≤ N + N) }
     ensures { result ≡ same_bytes a.now b.now }
@@ -169,6 +170,7 @@ fn same_ends<const N: usize>(a: &[u8], b: &[u8]) -> bool
 
 // Whether a and b hold the same bytes. Up to 16 of them, as those of a number or an address, are compared in two steps.
 #[tactic(auto, using(crate::proofs::SameLaws::eq_same))]
+#[inline(always)]
 pub fn same(a: &[u8], b: &[u8]) -> bool
     ensures { result ≡ same_bytes a.now b.now }
 {
