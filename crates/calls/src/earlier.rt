@@ -25,7 +25,7 @@ fn fits(earlier: &[u8], failed: Failures) -> bool
         return false;
     }
     let told = answer::read(earlier, 0);
-    told.failed.before_booking() == failed.before_booking()
+    told.failed.before_booking().same(failed.before_booking())
 }
 
 // Refusals 2, 3, 4, 13, 14, 29 in that order; else what a record comes to on the ledger as it is, judged again.
