@@ -123,6 +123,10 @@ address_unique t f k ok e =
         absurd (false≢true (sym (addresses_differ t ok k j h l) ∙ addresses_both _ _ f lengths here there))
     other j l h false q = refl
 
+-- bank codes whose last two digits differ are not the same
+pub codes_apart : (v w : List ℕ) → (number_at 2 3 v ≡ number_at 2 3 w → ⊥) → true ≡ not (same v w)
+codes_apart v w n = rw (← same_apart (number_at 2 3) v w n) refl
+
 -- rows without a word in common differ
 pub words_apart : (v w : List ℕ)
     → (eqb (number_at 2 3 (code_of v)) (number_at 2 3 (code_of w)) || eqb (number_at 8 0 (address_of v)) (number_at 8 0 (address_of w))) ≡ false
@@ -134,4 +138,4 @@ words_apart v w = go _ _ refl refl
     go true b p q e = absurd (false≢true (sym e))
     go false true p q e = absurd (false≢true (sym e))
     go false false p q e =
-        rw (← same_apart (number_at 2 3) (code_of v) (code_of w) (eqb-false _ _ p), ← same_apart (number_at 8 0) (address_of v) (address_of w) (eqb-false _ _ q)) refl
+        rw (← codes_apart (code_of v) (code_of w) (eqb-false _ _ p), ← same_apart (number_at 8 0) (address_of v) (address_of w) (eqb-false _ _ q)) refl

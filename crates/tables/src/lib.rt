@@ -114,15 +114,25 @@ fn may_agree(v: &Row, w: &Row) -> bool
         | (text::read::<u64>(address_of(v), 0) == text::read::<u64>(address_of(w), 0))
 }
 
-// Whether two rows differ in bank code and in address.
+// Whether two rows differ in bank code. Where their last two digits do, which have been read for may_agree, no more is compared.
 #[tactic(auto, using(text::proofs::SameLaws::eq_same))]
+fn codes_differ(v: &Row, w: &Row) -> bool
+    ensures { result ≡ not (same (code_of v.now) (code_of w.now)) }
+{
+    if text::read::<u16>(code_of(v), 3) != text::read::<u16>(code_of(w), 3) {
+        return true;
+    }
+    code_of(v) != code_of(w)
+}
+
+// Whether two rows differ in bank code and in address.
 fn rows_differ(v: &Row, w: &Row) -> bool
     ensures { result ≡ (not (same (code_of v.now) (code_of w.now)) && not (same (address_of v.now) (address_of w.now))) }
 {
     if !may_agree(v, w) {
         return true;
     }
-    (code_of(v) != code_of(w)) & !text::same(address_of(v), address_of(w))
+    codes_differ(v, w) & !text::same(address_of(v), address_of(w))
 }
 
 // Whether row w differs from each row before it.
