@@ -4,7 +4,7 @@ ghost use Rattle.std.specs.Prelude.{◌≤◌, length};
 ghost use Rattle.io.specs.Counts.{IsPrefixLen};
 
 use page::Page;
-use words::{append_times, before, behind, number};
+use words::{append_times, before, behind, number, split};
 
 // Where a text first stands in s; the length of s where it doesn't.
 fn find(s: &[u8], t: &[u8]) -> usize {
@@ -66,8 +66,8 @@ pub(crate) fn edited(buffer: &mut [u8], object: &[u8], name: &[u8], tokens: &[u8
     ensures { IsPrefixLen result buffer.new }
 {
     let mut n = copied(buffer, object);
-    for token in tokens.split_inclusive(|b| *b == b' ') {
-        n = apply(buffer, n, name, before(token, b' '));
+    for token in split(tokens, b' ') {
+        n = apply(buffer, n, name, token);
     }
     n
 }

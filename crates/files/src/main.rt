@@ -9,7 +9,6 @@ use case::Sample;
 use disk::load_or_fail;
 use std::io;
 use std::rt::Files;
-use words::before;
 
 // The bytes of the answer buffer, where a case says nothing else: as many as 1,025 answers take.
 const ANSWER_ROOM: usize = 1025 * answer::SIZE;
@@ -45,8 +44,8 @@ fn run(rt: &(impl Files + Print + Eprint), name: &[u8]) -> io::Result<()> {
         ledger: &ledger[..m],
         answers: &answers,
     };
-    for line in cases[..k].split_inclusive(|b| *b == b'\n') {
-        case::run(rt, before(line, b'\n'), sample)?;
+    for line in words::split(&cases[..k], b'\n') {
+        case::run(rt, line, sample)?;
     }
     Ok(())
 }

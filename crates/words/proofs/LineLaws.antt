@@ -18,7 +18,7 @@ use Rattle.text.specs.Part.{Lies}
 use Rattle.page.specs.declared.Page.{Page}
 use Rattle.page.specs.Lent.{with_text}
 use Rattle.page.proofs.LentLaws.{with_both, with_nothing}
-use Rattle.words.specs.Words.{before_first, behind_first, tail_start, byte_of, bytes_of, repeated}
+use Rattle.words.specs.Words.{before_first, behind_first, tail_start, next_place, byte_of, bytes_of, repeated}
 
 -- what stands before the first byte b is the front up to that byte
 pub lies_before : (b : ℕ) {s r : Bor (List ℕ)} {k : ℕ} → k ≡ position_of b s.now → Lies s 0 (take k s.now) r → Lies s 0 (before_first b s.now) r
@@ -59,6 +59,11 @@ module _ (b at : ℕ) (s : List ℕ) where
   -- what stands behind a byte is no longer than the text
   pub behind_within : length (behind_first b (drop at s)) ≤ length s
   behind_within = omega (arith, length_behind)
+
+-- less is left from the place behind a byte than from the place from which the byte is looked for
+pub next_less : (b : ℕ) (s : List ℕ) {at r : ℕ} → r ≡ next_place b at s → at < length s → length s - r < length s - at
+unfolding next_place
+next_less b s {at} e h = omega (arith, e, length_behind b at s)
 
 -- what a loop knows that writes the bytes of digits one by one: what is still to be written are those of the digits that are left
 two_digits : (s : List ℕ) → 2 ≤ length s → bytes_of s ≡ byte_of s ∷ bytes_of (drop 2 s)

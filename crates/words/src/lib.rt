@@ -5,6 +5,7 @@ ghost use Rattle.std.specs.Prelude.{◌≡◌, ◌<◌};
 ghost use Rattle.text.specs.Part.{Lies};
 ghost use Rattle.page.specs.Lent.{with_text};
 ghost use Rattle.words.specs.Words.{before_first, behind_first, tail_start, next_place, number_of, digit_value, byte_of, bytes_of, piece_bytes, repeated};
+ghost use Rattle.words.specs.Parts.{parts_of, parts_left, GivesPart};
 
 use page::Page;
 
@@ -26,12 +27,44 @@ pub fn behind(s: &[u8], b: u8) -> &[u8]
 }
 
 // The place behind the first byte b from a place on; the end of s where there is none.
-// As it is: the programs split their lines by the library's iterator now; the wrong builds next_from_start, next_space stand on it.
 #[tactic(auto, using(crate::proofs::LineLaws::behind_within), unfolding(crate::specs::Words::next_place))]
 pub fn next(s: &[u8], at: usize, b: u8) -> usize
     ensures { result ≡ next_place b at s.now }
 {
     s.len() - behind(text::rest(s, at), b).len()
+}
+
+// The parts of a text between single bytes; none behind such a byte at its end.
+#[derive(Drop)]
+pub struct Parts<'a> {
+    text: &'a [u8],
+    at: usize,
+    by: u8,
+}
+
+// All parts of a text between bytes `by`, from the first on.
+pub fn split(s: &[u8], by: u8) -> Parts<'_>
+    ensures { result ≡ parts_of by s.entry }
+{
+    Parts { text: s, at: 0, by }
+}
+
+impl<'a> Iterator for Parts<'a> {
+    type Item = &'a [u8];
+
+    ghost next_gives = { GivesPart };
+
+    ghost remaining = { parts_left };
+
+    #[tactic(auto, using(crate::proofs::LineLaws::next_less))]
+    fn next(&mut self) -> Option<&'a [u8]> {
+        if self.text.len() <= self.at {
+            return None;
+        }
+        let part = before(text::rest(self.text, self.at), self.by);
+        self.at = next(self.text, self.at, self.by);
+        Some(part)
+    }
 }
 
 // The number of up to nine digits; 0 where s is none.
