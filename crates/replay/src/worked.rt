@@ -6,7 +6,6 @@ use ledger::{ROW_COUNT, ROW_SIZE};
 use refusal::Refusal;
 use std::io;
 use tables::Tables;
-use words::before;
 
 // Prints the sixteen bytes of an answer, or the number of a refusal.
 fn print_reply(rt: &impl Print, reply: Result<Answer, Refusal>) -> io::Result<()> {
@@ -35,10 +34,10 @@ pub(crate) fn run(
     ledger: &mut [u8],
     file: &[u8],
 ) -> io::Result<()> {
-    for (k, line) in (1u64..).zip(file.split_inclusive(|b| *b == b'\n')) {
+    for (k, line) in (1u64..).zip(words::split(file, b'\n')) {
         let call = Call {
             sender: b"MBONE",
-            record: before(line, b'\n'),
+            record: line,
         };
         print_count(rt, b"record ", k)?;
         rt.write_all(b" ")?;
