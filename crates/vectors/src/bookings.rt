@@ -10,7 +10,7 @@ use ledger::{
 };
 use page::Page;
 use std::io;
-use words::{before, behind, number};
+use words::{before, behind, number, split};
 
 // The partner that a word names; none where there is no word.
 fn partner_of(word: &[u8]) -> u16 {
@@ -45,8 +45,8 @@ fn write_rows(compartment: &mut [u8], rows: &[u8]) {
         room: compartment,
         end: 0,
     };
-    for word in rows.split_inclusive(|b| *b == b' ') {
-        page.append(&row_of(before(word, b' ')));
+    for word in split(rows, b' ') {
+        page.append(&row_of(word));
     }
 }
 

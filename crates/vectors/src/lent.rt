@@ -3,7 +3,7 @@
 use page::Page;
 use refusal::Refusal;
 use std::io;
-use words::{append_hex, before, behind, number};
+use words::{append_hex, before, behind, number, split};
 
 // Writes what a token PLACE:HEX says.
 fn patch(object: &mut [u8], token: &[u8]) {
@@ -20,8 +20,8 @@ pub(crate) fn print(rt: &impl Print, line: &[u8]) -> io::Result<()> {
     let kind = before(line, b' ');
     let named = behind(line, b' ');
     let sized = behind(named, b' ');
-    for token in behind(sized, b' ').split_inclusive(|b| *b == b' ') {
-        patch(&mut room, before(token, b' '));
+    for token in split(behind(sized, b' '), b' ') {
+        patch(&mut room, token);
     }
     let object = text::front(&room, number(before(sized, b' ')));
     let (sound, refusal) = match kind {

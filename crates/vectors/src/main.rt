@@ -12,7 +12,6 @@ use disk::load_or_fail;
 use std::io;
 use std::rt::Files;
 use tables::Tables;
-use words::before;
 
 // Room for a file of vectors.
 const FILE_ROOM: usize = 65536;
@@ -27,8 +26,8 @@ fn run<F: Fn(&[u8]) -> io::Result<()>>(
 {
     let mut buffer = [0u8; FILE_ROOM];
     let n = load_or_fail(rt, path, &mut buffer);
-    for line in buffer[..n].split_inclusive(|b| *b == b'\n') {
-        print(before(line, b'\n'))?;
+    for line in words::split(&buffer[..n], b'\n') {
+        print(line)?;
     }
     Ok(())
 }
