@@ -69,13 +69,44 @@ fn empty_place() -> Place
     }
 }
 
+// Where field n lies by an index, in a record of the given size; the empty part where the index doesn't say.
+pub fn place_of(size: usize, stops: &[usize; 39], n: usize) -> Place
+    ensures { result ≡ place_in size stops.now n }
+{
+    if n < 1 {
+        return empty_place();
+    }
+    if 39 < n {
+        return empty_place();
+    }
+    let end = stops[n - 1];
+    if size < end {
+        return empty_place();
+    }
+    if n == 1 {
+        return Place {
+            start: 0,
+            length: end,
+        };
+    }
+    let before = stops[n - 2];
+    if before < end {
+        Place {
+            start: before + 1,
+            length: end - (before + 1),
+        }
+    } else {
+        empty_place()
+    }
+}
+
 // Where field n of a record lies; the empty part at its start for another number, or where it hasn't 38 semicolons.
 pub fn field_place(record: &[u8], n: usize) -> Place
     ensures { result ≡ field_place «record».now n }
 {
-    let record = Record::of(record);
-    if record.is_whole() {
-        return record.place(n);
+    let mut stops = [0usize; 39];
+    if fill(&mut stops, record) {
+        return place_of(record.len(), &stops, n);
     }
     empty_place()
 }
@@ -109,12 +140,11 @@ impl<'a> Record<'a> {
         if bytes.len() < 38 {
             return Record { bytes, stops: none };
         }
-        let mut stops = none;
-        if fill(&mut stops, bytes) {
-            Record { bytes, stops }
-        } else {
-            Record { bytes, stops: none }
+        let mut record = Record { bytes, stops: none };
+        if !fill(&mut record.stops, bytes) {
+            record.stops = none;
         }
+        record
     }
 
     // Whether it has 38 semicolons, by its index.
@@ -128,32 +158,7 @@ impl<'a> Record<'a> {
     pub fn place(&self, n: usize) -> Place
         ensures { result ≡ place_in (length self.now.bytes.now) self.now.stops n }
     {
-        if n < 1 {
-            return empty_place();
-        }
-        if 39 < n {
-            return empty_place();
-        }
-        let size = self.bytes.len();
-        let end = self.stops[n - 1];
-        if size < end {
-            return empty_place();
-        }
-        if n == 1 {
-            return Place {
-                start: 0,
-                length: end,
-            };
-        }
-        let before = self.stops[n - 2];
-        if before < end {
-            Place {
-                start: before + 1,
-                length: end - (before + 1),
-            }
-        } else {
-            empty_place()
-        }
+        place_of(self.bytes.len(), &self.stops, n)
     }
 
     // Field n by the index: that part of the record.

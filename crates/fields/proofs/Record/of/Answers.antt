@@ -6,5 +6,5 @@ use Rattle.fields.proofs.Record.of.Goals as goal
 pub returns-then-bytes-lt38-clause-index : goal.returns-then-bytes-lt38-clause-index
 returns-then-bytes-lt38-clause-index c = sym (stops_broken _ (sym (index_short c.args.bytes.now (omega arith))))
 
-pub returns-else-fill-clause-index : goal.returns-else-fill-clause-index
-returns-else-fill-clause-index c = sym (stops_broken _ (sym c.fill.ensures.0 ∙ c.if-fill.false))
+pub returns-then-not-fill-clause-index : goal.returns-then-not-fill-clause-index
+returns-then-not-fill-clause-index c = sym (stops_broken _ (sym c.fill.ensures.0 ∙ c.if-not-fill.true))

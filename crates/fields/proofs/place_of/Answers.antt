@@ -1,6 +1,6 @@
 use mathlib.Core.Path.{◌∙◌}
 use Rattle.fields.proofs.FieldLaws.{place_below, place_above, place_beyond, place_first, place_next, place_unordered}
-use Rattle.fields.proofs.Record.place.Goals as goal
+use Rattle.fields.proofs.place_of.Goals as goal
 
 pub returns-then-n-lt1 : goal.returns-then-n-lt1
 returns-then-n-lt1 c = c.empty_place.ensures ∙ place_below _ _ _ c.if-n-lt1.true
