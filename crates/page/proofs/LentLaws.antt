@@ -9,7 +9,7 @@ use mathlib.Core.Path.{◌≡◌, refl, ap, sym, ◌∙◌}
 use Rattle.page.specs.Page.{page, appended}
 use Rattle.page.specs.declared.Page.{Page as Lent}
 use Rattle.page.specs.Lent.{page_of, with_page, with_text}
-use Rattle.page.proofs.PageLaws.{appended_both, appended_full, appended_cut}
+use Rattle.page.proofs.PageLaws.{appended_both, appended_length, appended_full, appended_cut}
 
 -- one text behind another
 pub with_both : (p : Lent) (s t : List ℕ) → with_text (with_text p s) t ≡ with_text p (s ++ t)
@@ -20,6 +20,11 @@ with_both p s t = ap (with_page p) (appended_both (page_of p) s t)
 pub with_nothing : (p : Lent) → with_text p [] ≡ p
 unfolding with_text appended
 with_nothing p = refl
+
+-- it stays as long as it is
+pub with_length : (p : Lent) (t : List ℕ) {q : Lent} → q ≡ with_text p t → length q.room.now ≡ length p.room.now
+unfolding with_text
+with_length p t e = ap (λ (x : Lent). length x.room.now) e ∙ appended_length (page_of p) t refl
 
 -- what its lender finds in the buffer when the page is done with
 pub left_by : (p : Lent) (t : List ℕ) {q : Lent} {out : List ℕ} → q ≡ with_text p t

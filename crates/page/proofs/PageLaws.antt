@@ -21,6 +21,22 @@ unfolding appended
 appended_both p [] t = refl
 appended_both p (b ∷ s) t = appended_both (typed p b) s t
 
+-- a page stays as long as it is
+typed_length : (p : Page) (b : ℕ) → length (typed p b).buffer ≡ length p.buffer
+typed_length p b = go (ltb p.end (length p.buffer))
+  where
+    go : (room : Bool) → length (cond room (page (set p.buffer p.end b) (suc p.end)) p).buffer ≡ length p.buffer
+    go true = length-set p.buffer p.end b
+    go false = refl
+
+kept_length : (p : Page) (t : List ℕ) → length (appended p t).buffer ≡ length p.buffer
+unfolding appended
+kept_length p [] = refl
+kept_length p (b ∷ t) = kept_length (typed p b) t ∙ typed_length p b
+
+pub appended_length : (p : Page) (t : List ℕ) {q : Page} → q ≡ appended p t → length q.buffer ≡ length p.buffer
+appended_length p t e = ap (λ (x : Page). length x.buffer) e ∙ kept_length p t
+
 -- a text that begins within the page ends there
 typed_within : (p : Page) (b : ℕ) → p.end ≤ length p.buffer → (typed p b).end ≤ length (typed p b).buffer
 typed_within p b h = go (ltb p.end (length p.buffer)) refl

@@ -1,9 +1,10 @@
 // Text that is put together piece by piece in a lent buffer.
 #![tactic(auto)]
 
-ghost use Rattle.std.specs.Prelude.{◌≡◌, ◌%◌, take};
+ghost use Rattle.std.specs.Prelude.{◌≡◌, ◌%◌, length, take};
 ghost use Rattle.io.specs.Digits.{hex_digit_ascii};
-ghost use Rattle.page.specs.Lent.{with_text};
+ghost use Rattle.text.specs.Part.{Lies};
+ghost use Rattle.page.specs.Lent.{room_of, with_text};
 ghost use Rattle.page.specs.Number.{number_text, code_text};
 
 // A page: a lent buffer, and where its text ends.
@@ -21,7 +22,7 @@ impl Page<'_> {
     {
         if self.end < self.room.len() {
             let n = piece.len().min(self.room.len() - self.end);
-            self.room[self.end..self.end + n].copy_from_slice(&piece[..n]);
+            copy(&mut self.room[self.end..self.end + n], &piece[..n]);
             self.end += n;
         }
     }
@@ -54,9 +55,20 @@ impl Page<'_> {
 
     // The text that stands in the buffer.
     pub fn text(&self) -> &[u8]
-        ensures { result.now ≡ take self.now.end self.now.room.now }
+        ensures { Lies (room_of self.now) 0 (take self.now.end self.now.room.now) result }
     {
         &self.room[..self.end.min(self.room.len())]
+    }
+}
+
+// Copies a piece into a part of its length.
+// As it is: the library's copy_from_slice is a call of memmove, which costs a single byte more than this loop does, and which C callers would have to bring.
+fn copy(part: &mut [u8], piece: &[u8])
+    requires { length part.old ≡ length piece.now }
+    ensures { part.new ≡ piece.now }
+{
+    for (i, b) in piece.iter().enumerate() {
+        part[i] = *b;
     }
 }
 
