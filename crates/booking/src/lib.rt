@@ -17,8 +17,11 @@ fn put_number(w: &mut [u8], n: &[u8])
     requires { (length w.old ≡ number_room) × (length n.now ≤ number_room) }
     ensures { w.new ≡ padded n.now }
 {
+    // As it is: the library's copy_from_slice is a call of memmove, which C callers would have to bring.
     let (number, zeros) = w.split_at_mut(n.len());
-    number.copy_from_slice(n);
+    for (i, b) in n.iter().enumerate() {
+        number[i] = *b;
+    }
     zeros.fill(0);
 }
 
