@@ -2,7 +2,7 @@
 // by reporters.ref and currency.ref, all in the working directory. Prints what would become of each, then how many would be booked. Writes no file.
 #![tactic(auto)]
 
-ghost use Rattle.std.specs.Prelude.{◌+◌, ◌<◌, ◌≡◌, ◌≤◌, IfOk};
+ghost use Rattle.std.specs.Prelude.{◌+◌, ◌<◌, ◌≡◌, ◌≤◌, IfOk, if◌then◌else◌, length};
 ghost use Rattle.io.specs.Counts.{IsPrefixLen};
 
 use answer::{Answer, BOOKED};
@@ -57,7 +57,9 @@ struct Progress {
 
 impl Progress {
     // Before the first line.
-    fn start() -> Progress {
+    fn start() -> Progress
+        ensures { result.number ≡ 0 }
+    {
         Progress {
             bytes: 0,
             number: 0,
@@ -65,18 +67,15 @@ impl Progress {
         }
     }
 
-    // With a record more, whose line has been read to its end. No run reads so many that a count would stop.
+    // With a record more, whose line has been read to its end.
     fn counted(self, books: bool) -> Progress
-        ensures { self.number < 18446744073709551615 → result.number ≡ self.number + 1 }
+        requires { self.number < 18446744073709551615 }
+        ensures { (result.bytes ≡ 0) × (result.number ≡ self.number + 1) × (result.booked ≡ self.booked + (if books then 1 else 0)) }
     {
         Progress {
             bytes: 0,
-            number: self.number.saturating_add(1),
-            booked: if books {
-                self.booked.saturating_add(1)
-            } else {
-                self.booked
-            },
+            number: self.number + 1,
+            booked: self.booked + u64::from(books),
         }
     }
 }
@@ -110,7 +109,10 @@ fn judge(
     basis: Basis,
     line: &[u8],
     done: Progress,
-) -> io::Result<Progress> {
+) -> io::Result<Progress>
+    requires { done.number < 18446744073709551615 }
+    ensures { IfOk result (λ p. (p.bytes ≡ 0) × (p.number ≡ done.number + 1)) }
+{
     let call = Call {
         sender: basis.sender,
         record: record_of(line),
@@ -128,21 +130,27 @@ fn judge_lines(
     chunk: &[u8],
     line: &mut [u8],
     start: Progress,
-) -> io::Result<Progress> {
+) -> io::Result<Progress>
+    requires { start.number + length chunk.now < 18446744073709551615 }
+    ensures { IfOk result (λ p. p.number ≤ start.number + length chunk.now) }
+{
     let mut done = start;
-    for piece in chunk.split_inclusive(|b| *b == b'\n') {
+    let mut rest = chunk;
+    while let Some(n) = text::position(rest, b'\n') {
         let mut page = Page {
             room: line,
             end: done.bytes,
         };
-        let Some(part) = piece.strip_suffix(b"\n") else {
-            page.append(piece);
-            done.bytes = page.end;
-            return Ok(done);
-        };
-        page.append(part);
+        page.append(&rest[..n]);
         done = judge(rt, basis, page.text(), done)?;
+        rest = &rest[n + 1..];
     }
+    let mut page = Page {
+        room: line,
+        end: done.bytes,
+    };
+    page.append(rest);
+    done.bytes = page.end;
     Ok(done)
 }
 
@@ -158,7 +166,9 @@ fn tell_bookings(rt: &(impl Print + Eprint), count: u64) -> io::Result<()> {
 }
 
 // Ends a trial. What stands behind the last LF is a record where it is not empty, a lone CR an empty one.
-fn finish(rt: &(impl Print + Eprint), basis: Basis, line: &[u8], done: Progress) -> io::Result<()> {
+fn finish(rt: &(impl Print + Eprint), basis: Basis, line: &[u8], done: Progress) -> io::Result<()>
+    requires { done.number < 18446744073709551615 }
+{
     if line.is_empty() {
         return tell_bookings(rt, done.booked);
     }
@@ -184,9 +194,11 @@ fn judge_input(
     basis: Basis,
     chunk: &mut [u8],
     line: &mut [u8],
-) -> io::Result<()> {
+) -> io::Result<()>
+    requires { length chunk.old ≤ 65536 }
+{
     let mut done = Progress::start();
-    for _ in 0..MOST_READS {
+    for reads in 0..MOST_READS {
         let n = read_on(rt, input, chunk)?;
         if n == 0 {
             return finish(rt, basis, text::front(line, done.bytes), done);
