@@ -16,7 +16,8 @@ use tables::Tables;
 // Room for a file of vectors.
 const FILE_ROOM: usize = 65536;
 
-// Prints what becomes of each line of the file of that name.
+// Prints what becomes of each line of the file of that name. Never inlined: the room of one file would then stand in main's frame during the next.
+#[inline(never)]
 fn run<F: Fn(&[u8]) -> io::Result<()>>(
     rt: &(impl Files + Eprint),
     path: &[u8],
